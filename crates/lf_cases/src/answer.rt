@@ -1,6 +1,6 @@
 //! What a call answers on a case.
 
-use crate::case::Case;
+use crate::case::TestCase;
 use crate::writer::Writer;
 use anyhow::{Result, anyhow};
 use lf_base::{Memory, Refusal};
@@ -26,7 +26,7 @@ impl Answer {
     }
 
     /// What is wrong with the answer to a case, if anything.
-    pub fn wrong(&self, alloc: Global, case: &Case) -> Result<Option<String>> {
+    pub fn wrong(&self, alloc: Global, case: &TestCase) -> Result<Option<String>> {
         let found = Value::from_str(alloc, self.expect.text()?)?;
         let expect = case.expect();
         if found == *expect {
@@ -37,7 +37,7 @@ impl Answer {
     }
 
     /// What is wrong with the spans, if anything. A case without `spans` lets them be any.
-    fn wrong_spans(&self, alloc: Global, case: &Case) -> Result<Option<String>> {
+    fn wrong_spans(&self, alloc: Global, case: &TestCase) -> Result<Option<String>> {
         let Some(expect) = case.spans() else {
             return Ok(None);
         };

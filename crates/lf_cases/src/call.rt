@@ -1,7 +1,7 @@
 //! The calls that cases are run over. A further one has a variant, a word, a line in each `match` here, and a file of its own.
 
 use crate::answer::Answer;
-use crate::case::Case;
+use crate::case::TestCase;
 use crate::{expressions, patterns, rules, scalars, templates, tokens, trees, types};
 use anyhow::Result;
 use std::alloc::Global;
@@ -59,7 +59,7 @@ impl Call {
     }
 
     /// Writes what the call answers on a case.
-    pub fn answer(self, alloc: Global, case: &Case, answer: &mut Answer) -> Result<()> {
+    pub fn answer(self, alloc: Global, case: &TestCase, answer: &mut Answer) -> Result<()> {
         match self {
             Call::Tokens => tokens::answer(alloc, case, &mut answer.expect),
             Call::Expressions => expressions::answer(alloc, case, answer),

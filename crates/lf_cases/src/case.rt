@@ -7,7 +7,7 @@ use std::str;
 
 /// A case, as a JSON object tells it.
 #[derive(Drop)]
-pub struct Case {
+pub struct TestCase {
     /// The bytes that the call is given.
     input: Vec<u8>,
     /// The whole object but for `spans`, with the keys that single calls want beside the input.
@@ -19,14 +19,14 @@ pub struct Case {
 /// What stands before the spans of a line, which come last. They nest as deep as expressions do, deeper than the reader of JSON goes, so they are kept as text.
 const SPANS: &[u8] = b", \"spans\": ";
 
-impl Case {
+impl TestCase {
     /// Reads a case of a line. Its object has `name`, `expect`, and `input` or `input_hex`.
-    pub fn read(alloc: Global, line: &[u8]) -> Result<Case> {
+    pub fn read(alloc: Global, line: &[u8]) -> Result<TestCase> {
         let (object, spans) = parts_of(line);
         let object = object_of(alloc, object, spans.is_some())?;
         let input = input_of(alloc, &object)?;
         let spans = spans.map(|spans| spans_in(alloc, spans)).transpose()?;
-        Ok(Case {
+        Ok(TestCase {
             input,
             object,
             spans,

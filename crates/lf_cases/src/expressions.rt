@@ -3,7 +3,7 @@ ghost use Rattle.std.specs.Prelude.{◌≡◌, ◌+◌, length};
 ghost use Rattle.std.specs.List.Sorted.{IsNonDecreasing};
 
 use crate::answer::{Answer, refused};
-use crate::case::Case;
+use crate::case::TestCase;
 use crate::spans::write_spans;
 use crate::timing::Stopwatch;
 use crate::tokens::source_of;
@@ -17,7 +17,7 @@ use std::alloc::Global;
 use std::time::Duration;
 
 /// Writes what `parse` answers on the tokens of a case's text.
-pub fn answer(alloc: Global, case: &Case, answer: &mut Answer) -> Result<()> {
+pub fn answer(alloc: Global, case: &TestCase, answer: &mut Answer) -> Result<()> {
     let (text, from) = source_of(alloc, case.text()?)?;
     match read(alloc, &text, &from) {
         Ok(expr) => {

@@ -4,7 +4,7 @@
 //! the calls. A replacement that isn't plain is answered by `false`.
 
 use crate::answer::no_memory;
-use crate::case::Case;
+use crate::case::TestCase;
 use crate::timing::Stopwatch;
 use crate::writer::Writer;
 use anyhow::{Context, Result, anyhow};
@@ -15,7 +15,7 @@ use std::alloc::Global;
 use std::time::Duration;
 
 /// Writes what the calls of `lf_pattern` answer on the pattern of a case.
-pub fn answer(alloc: Global, case: &Case, out: &mut Writer) -> Result<()> {
+pub fn answer(alloc: Global, case: &TestCase, out: &mut Writer) -> Result<()> {
     let text = Text::of(alloc, case.text()?).map_err(no_memory)?;
     out.open("{");
     write_plain(alloc, out, &text);
@@ -52,7 +52,7 @@ fn write_answers(
     out: &mut Writer,
     mut pattern: Pattern,
     text: &Text,
-    case: &Case,
+    case: &TestCase,
 ) -> Result<()> {
     let samples = samples(alloc, text).map_err(not_read)?;
     out.key("samples");
@@ -97,7 +97,7 @@ fn texts_of(alloc: Global, text: &str) -> Result<Seq<Text>> {
 }
 
 /// The entries of a list of the answer that a case expects.
-fn entries_of<'a>(case: &'a Case, key: &str) -> &'a [Value] {
+fn entries_of<'a>(case: &'a TestCase, key: &str) -> &'a [Value] {
     match case.expect().get(key).and_then(Value::as_array) {
         Some(entries) => entries.as_slice(),
         None => &[],

@@ -2,7 +2,7 @@
 ghost use Rattle.std.specs.Prelude.{◌≤◌, ◌^◌, length};
 
 use crate::answer::refused;
-use crate::case::Case;
+use crate::case::TestCase;
 use crate::lengths::ask_length;
 use crate::timing::Stopwatch;
 use crate::writer::Writer;
@@ -15,7 +15,7 @@ use std::alloc::Global;
 use std::time::Duration;
 
 /// Writes what `read_rules` answers on the tree of a case's bytes.
-pub fn answer(alloc: Global, case: &Case, out: &mut Writer) -> Result<()> {
+pub fn answer(alloc: Global, case: &TestCase, out: &mut Writer) -> Result<()> {
     let bytes = case.bytes();
     ask_length(bytes)?;
     match read(alloc, bytes) {

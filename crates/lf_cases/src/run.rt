@@ -2,7 +2,7 @@
 
 use crate::answer::Answer;
 use crate::call::Call;
-use crate::case::Case;
+use crate::case::TestCase;
 use anyhow::Result;
 use std::alloc::Global;
 use std::io::Read;
@@ -68,7 +68,7 @@ fn run_line(rt: &HostRuntime, call: Call, number: u64, line: &[u8]) -> Result<bo
 
 /// What is wrong with the answer to the case of a line, if anything.
 fn wrong_in(alloc: Global, call: Call, line: &[u8]) -> Result<Option<String>> {
-    let case = Case::read(alloc, line)?;
+    let case = TestCase::read(alloc, line)?;
     let mut answer = Answer::new(alloc);
     call.answer(alloc, &case, &mut answer)?;
     answer.wrong(alloc, &case)

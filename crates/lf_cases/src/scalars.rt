@@ -3,7 +3,7 @@ ghost use Rattle.std.specs.Prelude.{◌≤◌, ◌^◌, length, OnOk};
 ghost use Rattle.lf_scalar.specs.Scalars.{BeginsAt};
 
 use crate::answer::refused;
-use crate::case::Case;
+use crate::case::TestCase;
 use crate::lengths::ask_length;
 use crate::timing::Stopwatch;
 use crate::writer::Writer;
@@ -13,7 +13,7 @@ use std::alloc::Global;
 use std::time::Duration;
 
 /// Writes what `read_scalar` answers on the text of a case, at its `at`, with its `indent` and `style`.
-pub fn answer(alloc: Global, case: &Case, out: &mut Writer) -> Result<()> {
+pub fn answer(alloc: Global, case: &TestCase, out: &mut Writer) -> Result<()> {
     let style = case
         .text_at("style")
         .and_then(style_of)

@@ -1,7 +1,7 @@
 //! The call `templates`: the references to labels in a template, or its refusal, as JSON.
 
 use crate::answer::refused;
-use crate::case::Case;
+use crate::case::TestCase;
 use crate::timing::Stopwatch;
 use crate::tokens::source_of;
 use crate::writer::Writer;
@@ -12,7 +12,7 @@ use std::alloc::Global;
 use std::time::Duration;
 
 /// Writes what `references` answers on the text of a case.
-pub fn answer(alloc: Global, case: &Case, out: &mut Writer) -> Result<()> {
+pub fn answer(alloc: Global, case: &TestCase, out: &mut Writer) -> Result<()> {
     let (text, from) = source_of(alloc, case.text()?)?;
     match references(alloc, &Template { text, from }) {
         Ok(found) => write_references(out, found.as_slice()),

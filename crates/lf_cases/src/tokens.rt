@@ -3,7 +3,7 @@ ghost use Rattle.std.specs.Prelude.{◌≡◌, ◌+◌, length, IfOk};
 ghost use Rattle.std.specs.List.Sorted.{IsNonDecreasing};
 
 use crate::answer::{no_memory, refused};
-use crate::case::Case;
+use crate::case::TestCase;
 use crate::offsets::plain_offsets;
 use crate::timing::Stopwatch;
 use crate::writer::Writer;
@@ -14,7 +14,7 @@ use std::alloc::Global;
 use std::time::Duration;
 
 /// Writes what `lex` answers on the text of a case.
-pub fn answer(alloc: Global, case: &Case, out: &mut Writer) -> Result<()> {
+pub fn answer(alloc: Global, case: &TestCase, out: &mut Writer) -> Result<()> {
     let (text, from) = source_of(alloc, case.text()?)?;
     match lex(alloc, &text, &from) {
         Ok(tokens) => write_tokens(out, tokens.as_slice()),

@@ -1,7 +1,7 @@
 //! The call `trees`: the tree of a file, or its refusal, as JSON.
 
 use crate::answer::refused;
-use crate::case::Case;
+use crate::case::TestCase;
 use crate::lengths::ask_length;
 use crate::scalars::write_scalar;
 use crate::timing::Stopwatch;
@@ -12,7 +12,7 @@ use std::alloc::Global;
 use std::time::Duration;
 
 /// Writes what `read_tree` answers on the bytes of a case.
-pub fn answer(alloc: Global, case: &Case, out: &mut Writer) -> Result<()> {
+pub fn answer(alloc: Global, case: &TestCase, out: &mut Writer) -> Result<()> {
     let bytes = case.bytes();
     ask_length(bytes)?;
     match read_tree(alloc, bytes) {

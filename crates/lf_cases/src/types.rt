@@ -3,7 +3,7 @@ ghost use Rattle.std.specs.Prelude.{◌≡◌, ◌+◌, length};
 ghost use Rattle.std.specs.List.Sorted.{IsNonDecreasing};
 
 use crate::answer::refused;
-use crate::case::Case;
+use crate::case::TestCase;
 use crate::expressions::read;
 use crate::timing::Stopwatch;
 use crate::tokens::source_of;
@@ -15,7 +15,7 @@ use std::alloc::Global;
 use std::time::Duration;
 
 /// Writes what `type_of` answers on the expression of a case. A text that is no expression is answered as the call that refuses it does.
-pub fn answer(alloc: Global, case: &Case, out: &mut Writer) -> Result<()> {
+pub fn answer(alloc: Global, case: &TestCase, out: &mut Writer) -> Result<()> {
     let (text, from) = source_of(alloc, case.text()?)?;
     match read_type(alloc, &text, &from) {
         Ok(of) => write_type(out, of),

@@ -1,10 +1,7 @@
 -- A rule is called empty exactly where its row is, whatever the verdicts on its labels are.
-use Rattle.std.proofs.Common.{◌≡◌, ℕ, Bool, not, List, Some, sym, ap, ◌∙◌}
+use Rattle.std.proofs.Common.{◌≡◌, ℕ, Bool, not, List, Some, ap, ◌∙◌}
 use Rattle.std.specs.Prelude.{slice_get}
-use Rattle.lf_deps.proofs.RuleTrees.{tree_at}
-use Rattle.std.proofs.lemmas.Option.{same_Some}
-use Rattle.lf_ast.specs.Rules.{RuleTree, rule_tree, rule_trees}
-use Rattle.lf_ast.specs.declared.rule.Rule.{Rule}
+use Rattle.lf_ast.specs.Rules.{RuleTree}
 use Rattle.lf_semantics.specs.ClassRows.{is_live}
 use Rattle.lf_semantics.specs.Environments.{rule_row}
 use Rattle.lf_semantics.specs.Listing.{Listing, universe_of}
@@ -19,10 +16,8 @@ called_empty u env rules i r Empty h = ap not h
 called_empty u env rules i r (Labels verdicts) h = ap not h.0
 
 -- what the row of the rule tells
-pub tells_empty : (rules : List Rule) (env : Environment) (i : ℕ) (rule : Rule) (r : RuleTree) (empty : Bool) → slice_get rules i ≡ Some rule → slice_get (rule_trees rules) i ≡ Some r
-    → empty ≡ not (is_live (rule_row (universe_of (rule_trees rules)) env (rule_tree rule))) → TellsEmpty (rule_trees rules) env i r empty
-tells_empty rules env i rule r empty at there is =
-    let u = universe_of (rule_trees rules) in
-    let v = some_verdict u env (rule_trees rules) i r there in
-    let same : rule_tree rule ≡ r = same_Some (rule_tree rule) r (sym (tree_at rules i rule at) ∙ there) in
-    (v.0, v.1, is ∙ ap (λ (x : RuleTree). not (is_live (rule_row u env x))) same ∙ called_empty u env (rule_trees rules) i r v.0 v.1)
+pub tells_empty : (rules : List RuleTree) (env : Environment) (i : ℕ) (r : RuleTree) (empty : Bool) → slice_get rules i ≡ Some r → empty ≡ not (is_live (rule_row (universe_of rules) env r)) → TellsEmpty rules env i r empty
+tells_empty rules env i r empty there is =
+    let u = universe_of rules in
+    let v = some_verdict u env rules i r there in
+    (v.0, v.1, is ∙ called_empty u env rules i r v.0 v.1)

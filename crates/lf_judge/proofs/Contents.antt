@@ -12,12 +12,12 @@ use Rattle.lf_accept.specs.Accepted.{IsAccepted, RefusesFile}
 use Rattle.lf_accept.proofs.OneFile.{one_file}
 use Rattle.lf_checks.specs.AlertTemplate.{HaveSources}
 use Rattle.lf_checks.specs.Files.{File, StandIn}
-use Rattle.lf_judge.specs.Founds.{AreContents, Content, Holds, Refused, Rules, accepted, rules_in}
+use Rattle.lf_judge.specs.Founds.{AreContents, Content, HasContent, Refused, Rules, accepted, rules_in}
 use Rattle.lf_judge.proofs.Sourced.{IsSourced, sourced}
 
 -- ---- one
 
-one_content : (k : ℕ) (file : File) (a b : Content) → Holds k file a → Holds k file b → a ≡ b
+one_content : (k : ℕ) (file : File) (a b : Content) → HasContent k file a → HasContent k file b → a ≡ b
 one_content k file (Rules rs) (Rules ss) h g = ap Rules ((one_file file.bytes k).value rs ss h g)
 one_content k file (Rules rs) (Refused kind span) h g = absurd ((one_file file.bytes k).one rs (fault kind span) h g)
 one_content k file (Refused kind span) (Rules rs) h g = absurd ((one_file file.bytes k).one rs (fault kind span) g h)
@@ -39,16 +39,16 @@ one_contents files a b h g =
 
 -- ---- some
 
-some_content : (k : ℕ) (file : File) → (content : Content) × Holds k file content
+some_content : (k : ℕ) (file : File) → (content : Content) × HasContent k file content
 some_content k file = by (one_file file.bytes k).some
   where
-    by : ((rules : List RuleTree) × IsAccepted file.bytes k rules) ⊎ ((f : Fault) × RefusesFile file.bytes f) → (content : Content) × Holds k file content
+    by : ((rules : List RuleTree) × IsAccepted file.bytes k rules) ⊎ ((f : Fault) × RefusesFile file.bytes f) → (content : Content) × HasContent k file content
     by (inl h) = (Rules h.0, h.1)
     by (inr h) = (Refused h.0.kind h.0.span, h.1)
 
 -- contents of files that are numbered from k on
 some_from : (k : ℕ) (files : List File) → (contents : List Content) × (length contents ≡ length files)
-    × ((i j : ℕ) (file : File) (content : Content) → j ≡ k + i → slice_get files i ≡ Some file → slice_get contents i ≡ Some content → Holds j file content)
+    × ((i j : ℕ) (file : File) (content : Content) → j ≡ k + i → slice_get files i ≡ Some file → slice_get contents i ≡ Some content → HasContent j file content)
 some_from k [] = ([], refl, λ i j file content e there found. cc)
 some_from k (f ∷ files) =
     let c = some_content k f in
@@ -58,12 +58,12 @@ some_from k (f ∷ files) =
       λ i. by c.0 c.1 later.0 later.2 i,
     )
   where
-    by : (c : Content) → Holds k f c → (contents : List Content)
-        → ((i j : ℕ) (file : File) (content : Content) → j ≡ suc k + i → slice_get files i ≡ Some file → slice_get contents i ≡ Some content → Holds j file content)
-        → (i j : ℕ) (file : File) (content : Content) → j ≡ k + i → slice_get (f ∷ files) i ≡ Some file → slice_get (c ∷ contents) i ≡ Some content → Holds j file content
+    by : (c : Content) → HasContent k f c → (contents : List Content)
+        → ((i j : ℕ) (file : File) (content : Content) → j ≡ suc k + i → slice_get files i ≡ Some file → slice_get contents i ≡ Some content → HasContent j file content)
+        → (i j : ℕ) (file : File) (content : Content) → j ≡ k + i → slice_get (f ∷ files) i ≡ Some file → slice_get (c ∷ contents) i ≡ Some content → HasContent j file content
     by c is contents later zero j file content e there found =
         let place : k ≡ j = omega (arith, e) in
-        subst (λ n. Holds n file content) place (subst (λ d. Holds k file d) (same_Some c content found) (subst (λ g. Holds k g c) (same_Some f file there) is))
+        subst (λ n. HasContent n file content) place (subst (λ d. HasContent k file d) (same_Some c content found) (subst (λ g. HasContent k g c) (same_Some f file there) is))
     by c is contents later (suc i) j file content e there found = later i j file content (omega (arith, e)) there found
 
 pub some_contents : (files : List File) → (contents : List Content) × AreContents files contents
@@ -77,7 +77,7 @@ module _ (files : List File) (contents : List Content) (are : AreContents files 
   abbrev Stands : RuleTree → Type 0
   Stands r = (k : ℕ) × (file : File) × (slice_get files k ≡ Some file) × IsSourced k r
 
-  of_content : (k : ℕ) (file : File) (content : Content) → slice_get files k ≡ Some file → Holds k file content → (r : RuleTree) → Contains (rules_in content) r → Stands r
+  of_content : (k : ℕ) (file : File) (content : Content) → slice_get files k ≡ Some file → HasContent k file content → (r : RuleTree) → Contains (rules_in content) r → Stands r
   of_content k file (Rules rules) at holds r c = (k, file, at, sourced file.bytes k rules holds r c)
   of_content k file (Refused kind span) at holds r c = absurd (none_in r c)
 

@@ -11,7 +11,7 @@ use Rattle.lf_checks.specs.Files.{File}
 use Rattle.lf_ast.specs.Rules.{RuleTree}
 use Rattle.lf_report.specs.declared.report.Refused.{Refused as Refusal}
 use Rattle.lf_judge.specs.Allowance.{AreAllowed, AreTaken, most_in_all}
-use Rattle.lf_judge.specs.Founds.{AreContents, Holds, accepted, rules_in}
+use Rattle.lf_judge.specs.Founds.{AreContents, HasContent, accepted, rules_in}
 use Rattle.lf_judge.specs.declared.accepting.Counted.{Counted}
 use Rattle.lf_judge.specs.views.Accepting.{IsFoundIn, content_in, refusal_in, taken_in}
 use Rattle.lf_judge.proofs.Pieces.{side_by_side}
@@ -20,7 +20,7 @@ use Rattle.lf_judge.proofs.Places.{map_twice, moved_all}
 pub all_found : (files : List File) (found : List Counted) → length found ≡ length files → ((i : ℕ) (x : Counted) → slice_get found i ≡ Some x → IsFoundIn files i x) → AreContents files (map content_in found)
 all_found files found n each = record {
   count = length-map found content_in ∙ n;
-  each = λ k file content there at. (let x = of_map_at content_in found k content at in subst (Holds k file) x.2 (each k x.0 x.1 file there).0);
+  each = λ k file content there at. (let x = of_map_at content_in found k content at in subst (HasContent k file) x.2 (each k x.0 x.1 file there).0);
 }
 
 pub all_taken : (files : List File) (found : List Counted) → length found ≡ length files → ((i : ℕ) (x : Counted) → slice_get found i ≡ Some x → IsFoundIn files i x) → AreTaken files (map taken_in found)

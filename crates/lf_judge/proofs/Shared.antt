@@ -18,12 +18,10 @@ use Rattle.lf_flow.proofs.env.Env.TheSendSync as env
 use Rattle.lf_forks.proofs.forks.Forks.TheSendSync as forks
 use Rattle.lf_built.proofs.marking.NodeMarks.TheSendSync as node_marks
 use Rattle.lf_built.proofs.part_rows.PartRows.TheSendSync as part_rows
-use Rattle.lf_built.proofs.recorders.Recorders.TheSendSync as recorders
-use Rattle.lf_worlds.proofs.readings.NameFacts.TheSendSync as facts
 use Rattle.lf_worlds.specs.contracts.each_rule.Trials as Trials
 use Rattle.lf_checks.proofs.rule_dependency.RecordedNames.TheSendSync as recorded
 use Rattle.lf_report.proofs.line_index.Position.TheSendSync as position
-use Rattle.lf_judge.proofs.source.Source.TheSendSync as source
+use Rattle.lf_judge.proofs.source.SourceFile.TheSendSync as source
 use Rattle.lf_judge.specs.contracts.at_hand.AtHand as AtHand
 
 pub rule_sync : IsSync Rule.the_row
@@ -36,4 +34,4 @@ hand_sync κ =
 
 pub trials_sync : (κ : NamedLft) → IsSync (Trials.the_row κ)
 trials_sync κ =
-    search (sendable, rule_sync, env.the_sync, seq.the_sync, universe.the_sync, node_marks.the_sync, part_rows.the_sync, facts.the_sync, graph.the_sync, recorders.the_sync, row.the_sync, text.the_sync, sources.the_sync, forks.the_sync, crosses) depth 40 fits 200000
+    search (sendable, rule_sync, env.the_sync, seq.the_sync, universe.the_sync, node_marks.the_sync, part_rows.the_sync, graph.the_sync, row.the_sync, text.the_sync, sources.the_sync, forks.the_sync, crosses) depth 40 fits 200000

@@ -9,7 +9,7 @@ use Rattle.lf_laws.proofs.Members.{each_member, first_or_behind, map_member, non
 use Rattle.lf_rules.specs.Sources.{Setting, SettingInside, Source, SourceInside, SourcesInside}
 use Rattle.lf_rules.proofs.Spans.{sources_inside}
 use Rattle.lf_yaml.proofs.InsideTrees.{tree_inside}
-use Rattle.lf_accept.specs.Accepted.{IsAccepted, IsRule, template_of, templates_of}
+use Rattle.lf_accept.specs.Accepted.{IsAccepted, IsAcceptedRule, template_of, templates_of}
 
 -- the text of a template has a source for each byte and for its end, and these never fall
 abbrev pub HasSource : Template → Type 0
@@ -38,12 +38,12 @@ of_source n s h = by s.alert
 abbrev pub IsSourced : ℕ → RuleTree → Type 0
 IsSourced file r = (r.file ≡ file) × ((t : Template) → Contains r.templates t → HasSource t)
 
-of_rule : (n file : ℕ) (s : Source) (r : RuleTree) → SourceInside n s → IsRule file s r → IsSourced file r
+of_rule : (n file : ℕ) (s : Source) (r : RuleTree) → SourceInside n s → IsAcceptedRule file s r → IsSourced file r
 of_rule n file s r h is =
     let templates : r.templates ≡ templates_of s = ap (λ x. x.templates) is.1 in
     (ap (λ x. x.file) is.1, λ t c. of_source n s h t (subst (λ (ts : List Template). Contains ts t) templates c))
 
-of_rules : (n file : ℕ) (ss : List Source) (rs : List RuleTree) → SourcesInside n ss → AllZip (IsRule file) ss rs → (r : RuleTree) → Contains rs r → IsSourced file r
+of_rules : (n file : ℕ) (ss : List Source) (rs : List RuleTree) → SourcesInside n ss → AllZip (IsAcceptedRule file) ss rs → (r : RuleTree) → Contains rs r → IsSourced file r
 of_rules n file [] [] h are r c = absurd (none_in r c)
 of_rules n file [] (x ∷ rs) h are r c = absurd are
 of_rules n file (s ∷ ss) [] h are r c = absurd are

@@ -14,14 +14,14 @@ pub data Content : Type 0 where
   Refused : Kind → Span → Content
 
 -- the file with this number is accepted with these rules, or it is refused there
-abbrev pub Holds : ℕ → File → Content → Type 0
-Holds k file (Rules rules) = IsAccepted file.bytes k rules
-Holds k file (Refused kind span) = RefusesFile file.bytes (fault kind span)
+abbrev pub HasContent : ℕ → File → Content → Type 0
+HasContent k file (Rules rules) = IsAccepted file.bytes k rules
+HasContent k file (Refused kind span) = RefusesFile file.bytes (fault kind span)
 
 -- what stands in each of the files, which are numbered from 0
 pub record AreContents (files : List File) (contents : List Content) : Type 0 where
   pub count : length contents ≡ length files
-  pub each : (k : ℕ) (file : File) (content : Content) → slice_get files k ≡ Some file → slice_get contents k ≡ Some content → Holds k file content
+  pub each : (k : ℕ) (file : File) (content : Content) → slice_get files k ≡ Some file → slice_get contents k ≡ Some content → HasContent k file content
 
 abbrev pub rules_in : Content → List RuleTree
 rules_in (Rules rules) = rules

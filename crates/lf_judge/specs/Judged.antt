@@ -16,7 +16,7 @@ use Rattle.lf_open.specs.Constructs.{number_of}
 use Rattle.lf_open.specs.OpenList.{IsFirstOpen}
 use Rattle.lf_open.specs.declared.open_at.OpenAt.{OpenAt}
 use Rattle.lf_report.specs.declared.report.FileReport.{FileReport}
-use Rattle.lf_report.specs.declared.report.Finding.{Finding as ReportFinding}
+use Rattle.lf_report.specs.declared.report.ReportedFinding.{ReportedFinding}
 use Rattle.lf_report.specs.declared.report.Report.{Report}
 use Rattle.lf_report.specs.declared.report.RuleReport.{RuleReport}
 use Rattle.lf_report.specs.declared.report.Severity.{Severity as ToldSeverity}
@@ -28,13 +28,13 @@ use Rattle.lf_trials.specs.Trials.{Shown}
 use Rattle.lf_trials.specs.Verdicts.{IsRuleVerdict, LabelVerdict, RuleVerdict, Empty, Labels}
 use Rattle.lf_trials.specs.Verdicts as verdict
 use Rattle.lf_judge.specs.Founds.{AreContents, Content, Rules, Refused, accepted}
-use Rattle.lf_judge.specs.declared.source.Source.{Source}
+use Rattle.lf_judge.specs.declared.source.SourceFile.{SourceFile}
 
 -- the files that were read
-abbrev pub file_of : Source → File
+abbrev pub file_of : SourceFile → File
 file_of source = record { name = source.name; bytes = source.bytes }
 
-abbrev pub files_of : List Source → List File
+abbrev pub files_of : List SourceFile → List File
 files_of sources = map file_of sources
 
 abbrev pub is_unresolved : LabelVerdict → Bool
@@ -103,7 +103,7 @@ pub record ToldFinding : Type 0 where
   pub span : Span
   pub text : Bytes
 
-abbrev pub finding_in : ReportFinding → ToldFinding
+abbrev pub finding_in : ReportedFinding → ToldFinding
 finding_in f = record { check = f.check.now; severity = f.severity; span = f.span; text = f.text }
 
 abbrev pub finding_told : Finding → ToldFinding

@@ -53,14 +53,14 @@ Exceeds labels rules quantity count =
     ⊎ ((word_count rules ≤ most_words) × (labels ≡ true) × (quantity ≡ 8) × IsTooMuch rules count)))))))
 
 -- why there is no report on rules: they pass a limit. Memory has no cause in the rules
-abbrev pub Ends : Bool → List RuleTree → JudgeEnd → Type 0
-Ends labels rules Memory = Unit {0}
-Ends labels rules (Limit quantity count) = Exceeds labels rules quantity count
+abbrev pub EndsWith : Bool → List RuleTree → JudgeEnd → Type 0
+EndsWith labels rules Memory = Unit {0}
+EndsWith labels rules (Limit quantity count) = Exceeds labels rules quantity count
 
 -- what stands in these files passes no limit
-abbrev pub Fit : Bool → List File → Type 0
-Fit labels files = (contents : List Content) × AreContents files contents × AreWithin labels (accepted contents)
+abbrev pub AreWithinLimits : Bool → List File → Type 0
+AreWithinLimits labels files = (contents : List Content) × AreContents files contents × AreWithin labels (accepted contents)
 
 -- why there is no report on these files: their rules pass a limit
 abbrev pub EndsIn : Bool → List File → JudgeEnd → Type 0
-EndsIn labels files end = (contents : List Content) × AreContents files contents × Ends labels (accepted contents) end
+EndsIn labels files end = (contents : List Content) × AreContents files contents × EndsWith labels (accepted contents) end

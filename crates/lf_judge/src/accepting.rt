@@ -4,12 +4,12 @@ ghost use Rattle.lf_ast.specs.Rules.{rule_trees};
 ghost use Rattle.lf_base.specs.declared.refusal.Refusal.TheVariants as refusal_of;
 ghost use Rattle.lf_accept.specs.Taken.{FileTakes};
 ghost use Rattle.lf_judge.specs.Allowance.{AreAllowed, AreTaken};
-ghost use Rattle.lf_judge.specs.Founds.{AreContents, Holds, rules_in};
+ghost use Rattle.lf_judge.specs.Founds.{AreContents, HasContent, rules_in};
 ghost use Rattle.lf_judge.specs.Judged.{file_of, files_of};
-ghost use Rattle.lf_judge.specs.declared.source.Source.{Source};
+ghost use Rattle.lf_judge.specs.declared.source.SourceFile.{SourceFile};
 ghost use Rattle.lf_judge.specs.views.Accepting.{IsFoundIn, IsOfContents, IsOfFiles, content_in, content_of, refusal_in, taken_in};
 
-use crate::Source;
+use crate::SourceFile;
 use crate::allowance::{TakenSoFar, allow};
 use crate::moving::taken_out;
 use lf_accept::{Acceptance, accept_counted};
@@ -25,7 +25,7 @@ const ACCEPTING: u8 = 0;
 
 /// What stands in a file.
 #[derive(Drop)]
-pub enum Found {
+pub enum FileContent {
     /// Its rules, in its order.
     Rules { of: Seq<Rule> },
     /// Why it is refused.
@@ -35,7 +35,7 @@ pub enum Found {
 /// What stands in a file, and what was taken of allowances for its patterns.
 #[derive(Drop)]
 pub struct Counted {
-    pub found: Found,
+    pub found: FileContent,
     pub taken: u64,
 }
 
@@ -52,11 +52,11 @@ pub struct Accepted {
 pub fn accept_all<R: Threads + Sync, G: Gate + Sync>(
     rt: &R,
     alloc: Global,
-    files: &Seq<Source>,
+    files: &Seq<SourceFile>,
     workers: u32,
     gate: &G,
 ) -> Result<Accepted, Memory>
-    requires room { (k : ℕ) (file : Source) → slice_get files.now k ≡ Some file → length file.bytes ≤ 2 ^ 31 }
+    requires room { (k : ℕ) (file : SourceFile) → slice_get files.now k ≡ Some file → length file.bytes ≤ 2 ^ 31 }
     requires few { length files.now < 2 ^ 32 }
     requires workers { (0 < workers) × (workers ≤ 64) }
     ensures found { IfOk result (IsOfFiles (files_of files.now)) }
@@ -71,11 +71,11 @@ pub fn accept_all<R: Threads + Sync, G: Gate + Sync>(
 fn accept_each<R: Threads + Sync, G: Gate + Sync>(
     rt: &R,
     alloc: Global,
-    files: &Seq<Source>,
+    files: &Seq<SourceFile>,
     workers: u32,
     gate: &G,
 ) -> Result<Seq<Counted>, Memory>
-    requires room { (k : ℕ) (file : Source) → slice_get files.now k ≡ Some file → length file.bytes ≤ 2 ^ 31 }
+    requires room { (k : ℕ) (file : SourceFile) → slice_get files.now k ≡ Some file → length file.bytes ≤ 2 ^ 31 }
     requires few { length files.now < 2 ^ 32 }
     requires workers { (0 < workers) × (workers ≤ 64) }
     ensures found { IfOk result (λ found. AreContents (files_of files.now) (map content_in found)) }
@@ -83,7 +83,7 @@ fn accept_each<R: Threads + Sync, G: Gate + Sync>(
 {
     let so_far = TakenSoFar::nothing();
     let accept_one = |number: u32| -> Result<Counted, Memory>
-        requires room { (k : ℕ) (file : Source) → slice_get files.now k ≡ Some file → length file.bytes ≤ 2 ^ 31 }
+        requires room { (k : ℕ) (file : SourceFile) → slice_get files.now k ≡ Some file → length file.bytes ≤ 2 ^ 31 }
         requires within { number < length files.now }
         ensures { IfOk result (IsFoundIn (files_of files.entry.now) number) }
     { accept_file(alloc, &so_far, files.get(number as usize), number) };
@@ -102,11 +102,11 @@ fn accept_each<R: Threads + Sync, G: Gate + Sync>(
 fn accept_file(
     alloc: Global,
     so_far: &TakenSoFar,
-    file: &Source,
+    file: &SourceFile,
     number: u32,
 ) -> Result<Counted, Memory>
     requires { length file.now.bytes ≤ 2 ^ 31 }
-    ensures found { IfOk result (λ counted. Holds number (file_of file.now) (content_in counted)) }
+    ensures found { IfOk result (λ counted. HasContent number (file_of file.now) (content_in counted)) }
     ensures taken { IfOk result (λ counted. FileTakes file.now.bytes counted.taken) }
 {
     if so_far.is_over() {
@@ -116,12 +116,12 @@ fn accept_file(
     so_far.add(taken);
     match answer {
         Ok(of) => {
-            let found = Found::Rules { of };
+            let found = FileContent::Rules { of };
             Ok(Counted { found, taken })
         }
         Err(refusal) => {
             let why = refused(refusal)?;
-            let found = Found::Refused { why };
+            let found = FileContent::Refused { why };
             Ok(Counted { found, taken })
         }
     }
@@ -152,16 +152,20 @@ fn put_together(alloc: Global, found: Seq<Counted>) -> Result<Accepted, Memory>
 }
 
 /// Moves the rules of a file behind these, unless it is refused. Answers why it is, if so.
-fn move_found(alloc: Global, rules: &mut Seq<Rule>, found: Found) -> Result<Option<Refused>, Memory>
+fn move_found(
+    alloc: Global,
+    rules: &mut Seq<Rule>,
+    found: FileContent,
+) -> Result<Option<Refused>, Memory>
     ensures refusal { IfOk result (λ refusal. refusal ≡ refusal_in (content_of found)) }
     ensures rules { OnOk result (rule_trees rules.new ≡ rule_trees rules.old ++ rules_in (content_of found)) }
 {
     match found {
-        Found::Rules { of } => {
+        FileContent::Rules { of } => {
             move_behind(alloc, rules, of)?;
             Ok(None)
         }
-        Found::Refused { why } => Ok(Some(why)),
+        FileContent::Refused { why } => Ok(Some(why)),
     }
 }
 

@@ -1,31 +1,56 @@
 //! What the checks find of a rule, as a report tells it.
-ghost use Rattle.std.specs.Prelude.{◌≡◌, ◌<◌, List, length, map, slice_index_or, IfOk};
+ghost use Rattle.std.specs.Prelude.{◌≡◌, ◌<◌, List, Some, length, map, slice_get, slice_index_or, IfOk};
 ghost use Rattle.lf_ast.specs.Rules.{RuleTree};
 ghost use Rattle.lf_checks.specs.Files.{File};
 ghost use Rattle.lf_checks.specs.views.Shown.{all_shown, place_of, shown};
 ghost use Rattle.lf_judge.specs.Judged.{finding_in, finding_told};
 ghost use Rattle.lf_judge.specs.views.AtHand.{IsReady, TellsFindingsAt, files_at, rules_of_hand};
+ghost use Rattle.lf_judge.specs.views.Checking.{TellsEmpty};
 
 use crate::at_hand::AtHand;
 use crate::wording::{check_name, severity};
-use lf_ast::Finding as Found;
+use lf_ast::Finding;
 use lf_base::{Memory, Seq, Text};
 use lf_checks::text_of;
-use lf_report::{Finding, Position, place_at};
+use lf_report::{Position, ReportedFinding, place_at};
 use std::alloc::Global;
 
 /// The findings of the rule with this number.
-pub fn findings_of(alloc: Global, hand: &AtHand, number: u32) -> Result<Seq<Finding>, Memory>
+pub fn findings_of(
+    alloc: Global,
+    hand: &AtHand,
+    number: u32,
+) -> Result<Seq<ReportedFinding>, Memory>
     requires ready { IsReady hand.now }
     requires rule { number < length hand.now.rules.now }
     ensures { IfOk result (TellsFindingsAt hand.now number) }
 {
-    let found = hand.checker.rule(alloc, number)?;
-    each_told(alloc, hand, found.as_slice())
+    let (findings, _empty) = findings_and_emptiness(alloc, hand, number)?;
+    Ok(findings)
+}
+
+/// The same, and whether the rule is empty.
+pub fn findings_and_emptiness(
+    alloc: Global,
+    hand: &AtHand,
+    number: u32,
+) -> Result<(Seq<ReportedFinding>, bool), Memory>
+    requires ready { IsReady hand.now }
+    requires rule { number < length hand.now.rules.now }
+    ensures findings { IfOk result (λ told. TellsFindingsAt hand.now number told.0) }
+    ensures empty { (r : RuleTree) → slice_get (rules_of_hand hand.now) number ≡ Some r → IfOk result (λ told. TellsEmpty (rules_of_hand hand.now) hand.now.env.now number r told.1) }
+{
+    let (found, empty) = hand.checker.rule_and_emptiness(alloc, number)?;
+    let told = each_told(alloc, hand, found.as_slice())?;
+    Ok((told, empty))
 }
 
 /// Findings as a report tells them.
-fn each_told(alloc: Global, hand: &AtHand, found: &[Found]) -> Result<Seq<Finding>, Memory>
+fn each_told(
+    alloc: Global,
+    hand: &AtHand,
+    found: &[Finding],
+) -> Result<Seq<ReportedFinding>, Memory>
     requires { IsReady hand.now }
     ensures { IfOk result (λ told. map finding_in told ≡ map finding_told (all_shown (files_at hand.now) (rules_of_hand hand.now) found.now)) }
 {
@@ -38,11 +63,11 @@ fn each_told(alloc: Global, hand: &AtHand, found: &[Found]) -> Result<Seq<Findin
 }
 
 /// A finding as a report tells it. `place` is where the name of the rule stands that it names.
-fn finding_told(alloc: Global, finding: &Found, place: &str) -> Result<Finding, Memory>
+fn finding_told(alloc: Global, finding: &Finding, place: &str) -> Result<ReportedFinding, Memory>
     ensures { (files : List File) (rules : List RuleTree) → place.now ≡ place_of files rules finding.now.other → IfOk result (λ told. finding_in told ≡ finding_told (shown files rules finding.now)) }
 {
     let text = text_of(alloc, finding, place)?;
-    Ok(Finding {
+    Ok(ReportedFinding {
         check: check_name(finding.check),
         severity: severity(finding.check),
         span: finding.span,

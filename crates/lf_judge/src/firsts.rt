@@ -14,7 +14,7 @@ use crate::verdicts::has_unresolved;
 use lf_ast::Rule;
 use lf_base::{Memory, Seq};
 use lf_open::{OpenAt, OpenFirsts, Opens};
-use lf_worlds::RuleVerdicts;
+use lf_worlds::RuleKnowledge;
 use std::alloc::Global;
 
 /// For each rule the first construct that stands open for it, where a label of it stays unresolved. Where no label of any rule does, nothing is looked for, and the list is
@@ -67,7 +67,7 @@ fn firsts_by(
 fn open_for(
     alloc: Global,
     open_firsts: &mut OpenFirsts<'_>,
-    known: &RuleVerdicts,
+    known: &RuleKnowledge,
     number: u32,
 ) -> Result<Option<OpenAt>, Memory>
     requires ready { AreFirstsReady open_firsts.old }

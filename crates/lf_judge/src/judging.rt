@@ -9,41 +9,42 @@ ghost use Rattle.lf_semantics.specs.Listing.{universe_of};
 ghost use Rattle.lf_judge.specs.Allowance.{AreAllowed};
 ghost use Rattle.lf_judge.specs.Founds.{Content};
 ghost use Rattle.lf_judge.specs.Judged.{IsReportOn, TellTheSame, files_of, files_told, labels_of};
-ghost use Rattle.lf_judge.specs.Limits.{EndsIn, Fit, most_rules};
-ghost use Rattle.lf_judge.specs.declared.source.Source.{Source};
+ghost use Rattle.lf_judge.specs.Limits.{EndsIn, AreWithinLimits, most_rules};
+ghost use Rattle.lf_judge.specs.declared.source.SourceFile.{SourceFile};
 ghost use Rattle.lf_judge.specs.views.Accepting.{IsOfFiles, refusal_in};
 ghost use Rattle.lf_judge.specs.views.Checking.{IsPutTogether};
 
 use crate::accepting::{Accepted, accept_all};
 use crate::measuring::{Measured, measure_with_names};
 use crate::telling::tell_rules;
-use crate::{JudgeEnd, Source};
+use crate::{JudgeEnd, SourceFile};
 use lf_base::{Gate, Memory, Seq, Text};
 use lf_checks::RecordedNames;
 use lf_classes::Universe;
-use lf_fix::solve_by;
 use lf_flow::{Env, match_patterns};
 use lf_report::{FileReport, Refused, Report, RuleReport};
+use lf_rounds::solve_shared_by;
 use std::alloc::Global;
 use std::thread::Threads;
 
-/// The report on files, with the verdicts on labels where `labels` asks for them. It is the same for any number of workers, who accept the files, and tell of the rules.
+/// The report on files, with the verdicts on labels where `labels` asks for them. It is the same for any number of workers, who accept the files, compute the rows of
+/// recorded names, and tell of the rules.
 ///
 /// Files whose rules pass a limit have none. One limit is on the verdicts that are asked for, and the others don't depend on them.
 /// Nor have those whose patterns count more than the patterns of a run may: memory is wanting for it.
 pub fn judge<R: Threads + Sync, G: Gate + Sync>(
     rt: &R,
     alloc: Global,
-    files: &Seq<Source>,
+    files: &Seq<SourceFile>,
     labels: bool,
     workers: u32,
     gate: &G,
 ) -> Result<Report, JudgeEnd>
-    requires room { (k : ℕ) (file : Source) → slice_get files.now k ≡ Some file → length file.bytes ≤ 2 ^ 31 }
+    requires room { (k : ℕ) (file : SourceFile) → slice_get files.now k ≡ Some file → length file.bytes ≤ 2 ^ 31 }
     requires few { length files.now < 2 ^ 32 }
     requires workers { (0 < workers) × (workers ≤ 64) }
     ensures report { IfOk result (IsReportOn (files_of files.now) labels) }
-    ensures fits { IfOk result (λ _. Fit labels (files_of files.now)) }
+    ensures fits { IfOk result (λ _. AreWithinLimits labels (files_of files.now)) }
     ensures refused { IfErr result (EndsIn labels (files_of files.now)) }
     // Where the patterns of the files count more than those of a run may, memory is wanting.
     ensures allowed { result ≢ Err JudgeEnd.Memory → AreAllowed (files_of files.now) }
@@ -57,7 +58,7 @@ pub fn judge<R: Threads + Sync, G: Gate + Sync>(
 fn judge_accepted<R: Threads + Sync, G: Gate + Sync>(
     rt: &R,
     alloc: Global,
-    files: &Seq<Source>,
+    files: &Seq<SourceFile>,
     accepted: &Accepted,
     labels: bool,
     workers: u32,
@@ -66,7 +67,7 @@ fn judge_accepted<R: Threads + Sync, G: Gate + Sync>(
     requires accepted { IsOfFiles (files_of files.now) accepted.now }
     requires workers { (0 < workers) × (workers ≤ 64) }
     ensures report { IfOk result (IsReportOn (files_of files.now) labels) }
-    ensures fits { IfOk result (λ _. Fit labels (files_of files.now)) }
+    ensures fits { IfOk result (λ _. AreWithinLimits labels (files_of files.now)) }
     ensures refused { IfErr result (EndsIn labels (files_of files.now)) }
 {
     let measured = measure_with_names(alloc, &accepted.rules, labels)?;
@@ -92,7 +93,7 @@ fn judge_accepted<R: Threads + Sync, G: Gate + Sync>(
 fn judge_within<R: Threads + Sync, G: Gate + Sync>(
     rt: &R,
     alloc: Global,
-    files: &Seq<Source>,
+    files: &Seq<SourceFile>,
     accepted: &Accepted,
     universe: &mut Universe,
     recorded: RecordedNames,
@@ -117,7 +118,7 @@ fn judge_within<R: Threads + Sync, G: Gate + Sync>(
 fn judge_prepared<R: Threads + Sync, G: Gate + Sync>(
     rt: &R,
     alloc: Global,
-    files: &Seq<Source>,
+    files: &Seq<SourceFile>,
     accepted: &Accepted,
     universe: &Universe,
     recorded: RecordedNames,
@@ -132,7 +133,8 @@ fn judge_prepared<R: Threads + Sync, G: Gate + Sync>(
     requires workers { (0 < workers) × (workers ≤ 64) }
     ensures { IfOk result (IsReportOn (files_of files.now) labels) }
 {
-    let env = solve_by(alloc, universe, &accepted.rules, recorded.sources())?;
+    let sources = recorded.sources();
+    let env = solve_shared_by(rt, alloc, universe, &accepted.rules, sources, workers, gate)?;
     let report = judge_solved(
         rt, alloc, files, accepted, universe, &env, recorded, labels, workers, gate,
     )?;
@@ -143,7 +145,7 @@ fn judge_prepared<R: Threads + Sync, G: Gate + Sync>(
 fn judge_solved<R: Threads + Sync, G: Gate + Sync>(
     rt: &R,
     alloc: Global,
-    files: &Seq<Source>,
+    files: &Seq<SourceFile>,
     accepted: &Accepted,
     universe: &Universe,
     env: &Env,
@@ -178,7 +180,7 @@ fn judge_solved<R: Threads + Sync, G: Gate + Sync>(
 /// The report, put together of what is told of the rules and of what stands in the files.
 fn report_of(
     alloc: Global,
-    files: &Seq<Source>,
+    files: &Seq<SourceFile>,
     accepted: &Accepted,
     universe: &Universe,
     rules: Seq<RuleReport>,
@@ -200,7 +202,7 @@ fn report_of(
 /// What is told of each file: its name and its bytes, and why it is refused, where it is.
 fn told_files(
     alloc: Global,
-    files: &Seq<Source>,
+    files: &Seq<SourceFile>,
     refusals: &[Option<Refused>],
 ) -> Result<Seq<FileReport>, Memory>
     requires { length refusals.now ≡ length files.now }
@@ -223,7 +225,7 @@ fn refusal_at(refusals: &[Option<Refused>], number: usize) -> Option<Refused>
 }
 
 /// What is told of a file.
-fn told_file(file: &Source, refusal: Option<Refused>) -> Result<FileReport, Memory>
+fn told_file(file: &SourceFile, refusal: Option<Refused>) -> Result<FileReport, Memory>
     ensures { IfOk result (λ told. told ≡ record { name = file.now.name; source = file.now.bytes; refusal = refusal }) }
 {
     let name = file.name.copy()?;

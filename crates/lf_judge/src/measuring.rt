@@ -5,7 +5,7 @@ ghost use Rattle.lf_checks.specs.views.Recorded.{AreOf};
 ghost use Rattle.lf_semantics.specs.Environments.{recorded_names};
 ghost use Rattle.lf_semantics.specs.Listing.{class_count as class_count_of, label_count, universe_of};
 ghost use Rattle.lf_classes.specs.Limits.{most_classes, most_labels};
-ghost use Rattle.lf_judge.specs.Limits.{AreWithin, Ends, most_rules, most_words, word_count as word_count_of};
+ghost use Rattle.lf_judge.specs.Limits.{AreWithin, EndsWith, most_rules, most_words, word_count as word_count_of};
 
 use crate::JudgeEnd;
 use lf_ast::Rule;
@@ -44,7 +44,7 @@ const SELECTED: u8 = 8;
 pub fn measure(alloc: Global, rules: &Seq<Rule>, labels: bool) -> Result<Universe, JudgeEnd>
     ensures found { IfOk result (λ universe. universe ≡ universe_of (rule_trees rules.now)) }
     ensures within { IfOk result (λ _. AreWithin labels (rule_trees rules.now)) }
-    ensures refused { IfErr result (Ends labels (rule_trees rules.now)) }
+    ensures refused { IfErr result (EndsWith labels (rule_trees rules.now)) }
 {
     let measured = measure_with_names(alloc, rules, labels)?;
     Ok(measured.universe)
@@ -66,7 +66,7 @@ pub(crate) fn measure_with_names(
     ensures found { IfOk result (λ measured. measured.universe ≡ universe_of (rule_trees rules.now)) }
     ensures recorded { IfOk result (λ measured. AreOf (rule_trees rules.now) measured.recorded) }
     ensures within { IfOk result (λ _. AreWithin labels (rule_trees rules.now)) }
-    ensures refused { IfErr result (Ends labels (rule_trees rules.now)) }
+    ensures refused { IfErr result (EndsWith labels (rule_trees rules.now)) }
 {
     if rules.len() > MOST_RULES {
         return Err(JudgeEnd::Limit {
@@ -94,7 +94,7 @@ fn limit(
     requires labels { label_count (universe_of (rule_trees rules.now)) ≤ most_labels }
     requires classes { class_count_of (universe_of (rule_trees rules.now)) ≤ most_classes }
     ensures within { IfOk result (λ _. AreWithin labels (rule_trees rules.now)) }
-    ensures refused { IfErr result (Ends labels (rule_trees rules.now)) }
+    ensures refused { IfErr result (EndsWith labels (rule_trees rules.now)) }
 {
     limit_words(universe, rules, recorded)?;
     if labels {
@@ -115,7 +115,7 @@ fn limit_words(
     requires labels { label_count (universe_of (rule_trees rules.now)) ≤ most_labels }
     requires classes { class_count_of (universe_of (rule_trees rules.now)) ≤ most_classes }
     ensures within { IfOk result (λ _. word_count_of (rule_trees rules.now) ≤ most_words) }
-    ensures refused { (labels : Bool) → IfErr result (Ends labels (rule_trees rules.now)) }
+    ensures refused { (labels : Bool) → IfErr result (EndsWith labels (rule_trees rules.now)) }
 {
     let words = word_count(universe, rules, recorded);
     if words > MOST_WORDS {
@@ -141,7 +141,7 @@ fn limit_trials(
     requires classes { class_count_of (universe_of (rule_trees rules.now)) ≤ most_classes }
     requires words { word_count_of (rule_trees rules.now) ≤ most_words }
     ensures within { IfOk result (λ _. AreWithin true (rule_trees rules.now)) }
-    ensures refused { IfErr result (Ends true (rule_trees rules.now)) }
+    ensures refused { IfErr result (EndsWith true (rule_trees rules.now)) }
 {
     let (sources, graph) = (recorded.sources(), recorded.graph());
     let selected = label_selectors_by(alloc, universe, rules, sources, graph)?;
@@ -160,7 +160,7 @@ fn build(alloc: Global, rules: &Seq<Rule>) -> Result<Universe, JudgeEnd>
     ensures found { IfOk result (λ universe. universe ≡ universe_of (rule_trees rules.now)) }
     ensures labels { IfOk result (λ _. label_count (universe_of (rule_trees rules.now)) ≤ most_labels) }
     ensures classes { IfOk result (λ _. class_count_of (universe_of (rule_trees rules.now)) ≤ most_classes) }
-    ensures refused { (labels : Bool) → IfErr result (Ends labels (rule_trees rules.now)) }
+    ensures refused { (labels : Bool) → IfErr result (EndsWith labels (rule_trees rules.now)) }
 {
     match Universe::build(alloc, rules) {
         Ok(universe) => Ok(universe),

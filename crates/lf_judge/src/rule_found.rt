@@ -11,8 +11,9 @@ use lf_base::{Gate, Memory, OpenGate, Seq};
 use lf_board::map_pieces;
 use lf_built::RuleRow;
 use lf_checks::RecordedNames;
-use lf_report::Finding;
-use lf_worlds::{NameFacts, RuleVerdicts, Trials};
+use lf_forks::Forks;
+use lf_report::ReportedFinding;
+use lf_worlds::{RuleKnowledge, Trials};
 use std::alloc::Global;
 use std::thread::Threads;
 
@@ -20,9 +21,9 @@ use std::thread::Threads;
 #[derive(Drop)]
 pub struct RuleFound {
     /// What is known of its labels.
-    pub known: RuleVerdicts,
+    pub known: RuleKnowledge,
     /// What the checks find.
-    pub findings: Seq<Finding>,
+    pub findings: Seq<ReportedFinding>,
 }
 
 /// What is found of each rule, in their order.
@@ -38,9 +39,9 @@ pub fn find_rules<R: Threads + Sync, G: Gate + Sync>(
     ensures { IfOk result (AreFoundAt hand.now) }
 {
     let recorded = hand.checker.recorded();
-    let facts = NameFacts::of(alloc, hand.rules, recorded.sources())?;
-    let rows = make_rows(rt, alloc, hand, recorded, &facts, workers)?;
-    let found = find_read(rt, alloc, hand, recorded, &facts, rows, workers, gate)?;
+    let forks = Forks::of(alloc, hand.rules, recorded.sources())?;
+    let rows = make_rows(rt, alloc, hand, recorded, &forks, workers)?;
+    let found = find_read(rt, alloc, hand, recorded, &forks, rows, workers, gate)?;
     Ok(found)
 }
 
@@ -50,20 +51,20 @@ fn make_rows<R: Threads + Sync>(
     alloc: Global,
     hand: &AtHand,
     recorded: &RecordedNames,
-    facts: &NameFacts,
+    forks: &Forks,
     workers: u32,
 ) -> Result<Seq<RuleRow>, Memory>
     requires ready { IsReady hand.now }
-    requires readings { AreReadingsBy (rules_of_hand hand.now) recorded.now.sources recorded.now.graph facts.now }
+    requires readings { AreReadingsBy (rules_of_hand hand.now) recorded.now.sources recorded.now.graph forks.now }
     requires workers { (0 < workers) × (workers ≤ 64) }
-    ensures { IfOk result (AreRowsOf hand.now.universe.now hand.now.env.now facts.now.forks (rules_of_hand hand.now)) }
+    ensures { IfOk result (AreRowsOf hand.now.universe.now hand.now.env.now forks.now (rules_of_hand hand.now)) }
 {
     let make_one = |number: u32| -> Result<RuleRow, Memory>
         requires ready { IsReady hand.now }
-        requires readings { AreReadingsBy (rules_of_hand hand.now) recorded.now.sources recorded.now.graph facts.now }
+        requires readings { AreReadingsBy (rules_of_hand hand.now) recorded.now.sources recorded.now.graph forks.now }
         requires rule { number < length hand.now.rules.now }
-        ensures { IfOk result (IsRowAt hand.entry.now facts.entry.now number) }
-    { make_row(alloc, hand, recorded, facts, number) };
+        ensures { IfOk result (IsRowAt hand.entry.now forks.entry.now number) }
+    { make_row(alloc, hand, recorded, forks, number) };
     map_pieces(
         rt,
         alloc,
@@ -80,13 +81,13 @@ fn make_row(
     alloc: Global,
     hand: &AtHand,
     recorded: &RecordedNames,
-    facts: &NameFacts,
+    forks: &Forks,
     number: u32,
 ) -> Result<RuleRow, Memory>
     requires ready { IsReady hand.now }
-    requires readings { AreReadingsBy (rules_of_hand hand.now) recorded.now.sources recorded.now.graph facts.now }
+    requires readings { AreReadingsBy (rules_of_hand hand.now) recorded.now.sources recorded.now.graph forks.now }
     requires rule { number < length hand.now.rules.now }
-    ensures { IfOk result (IsRowAt hand.now facts.now number) }
+    ensures { IfOk result (IsRowAt hand.now forks.now number) }
 {
     let row = RuleRow::of(
         alloc,
@@ -94,7 +95,7 @@ fn make_row(
         hand.env,
         hand.rules,
         recorded.sources(),
-        facts.forks(),
+        forks,
         number as usize,
     )?;
     Ok(row)
@@ -106,14 +107,14 @@ fn find_read<R: Threads + Sync, G: Gate + Sync>(
     alloc: Global,
     hand: &AtHand,
     recorded: &RecordedNames,
-    facts: &NameFacts,
+    forks: &Forks,
     rows: Seq<RuleRow>,
     workers: u32,
     gate: &G,
 ) -> Result<Seq<RuleFound>, Memory>
     requires ready { IsReady hand.now }
-    requires readings { AreReadingsBy (rules_of_hand hand.now) recorded.now.sources recorded.now.graph facts.now }
-    requires rows { AreRowsOf hand.now.universe.now hand.now.env.now facts.now.forks (rules_of_hand hand.now) rows }
+    requires readings { AreReadingsBy (rules_of_hand hand.now) recorded.now.sources recorded.now.graph forks.now }
+    requires rows { AreRowsOf hand.now.universe.now hand.now.env.now forks.now (rules_of_hand hand.now) rows }
     requires workers { (0 < workers) × (workers ≤ 64) }
     ensures { IfOk result (AreFoundAt hand.now) }
 {
@@ -124,7 +125,7 @@ fn find_read<R: Threads + Sync, G: Gate + Sync>(
         hand.rules,
         recorded.sources(),
         recorded.graph(),
-        facts,
+        forks,
         rows,
     )?;
     let found = find_each(rt, alloc, hand, &trials, workers, gate)?;

@@ -15,14 +15,14 @@ ghost use Rattle.lf_judge.specs.views.Checking.{TellsRules};
 ghost use Rattle.lf_judge.specs.views.RulesFound.{AreFoundAt, IsFoundAt, NameFirsts};
 ghost use Rattle.lf_judge.specs.views.NamePositions.{AreNamePositions};
 
-use crate::Source;
+use crate::SourceFile;
 use crate::at_hand::{AtHand, TELLING};
-use crate::findings::findings_of;
+use crate::findings::findings_and_emptiness;
 use crate::firsts::{first_at, firsts_of};
 use crate::moving::taken_out;
 use crate::name_positions::name_positions;
 use crate::rule_found::{RuleFound, find_rules};
-use crate::verdicts::{is_empty, rule_told};
+use crate::verdicts::rule_told;
 use lf_ast::{Rule, RuleVerdicts};
 use lf_base::{Gate, Memory, Seq};
 use lf_board::map_pieces;
@@ -30,7 +30,7 @@ use lf_checks::{Checker, RecordedNames};
 use lf_classes::Universe;
 use lf_flow::Env;
 use lf_open::OpenAt;
-use lf_report::{Finding, Position, RuleReport};
+use lf_report::{Position, ReportedFinding, RuleReport};
 use std::alloc::Global;
 use std::thread::Threads;
 
@@ -38,7 +38,7 @@ use std::thread::Threads;
 pub fn tell_rules<R: Threads + Sync, G: Gate + Sync>(
     rt: &R,
     alloc: Global,
-    files: &Seq<Source>,
+    files: &Seq<SourceFile>,
     rules: &Seq<Rule>,
     universe: &Universe,
     env: &Env,
@@ -67,7 +67,7 @@ pub fn tell_rules<R: Threads + Sync, G: Gate + Sync>(
 fn tell_named<R: Threads + Sync, G: Gate + Sync>(
     rt: &R,
     alloc: Global,
-    files: &Seq<Source>,
+    files: &Seq<SourceFile>,
     rules: &Seq<Rule>,
     names: &[Position],
     universe: &Universe,
@@ -223,8 +223,7 @@ fn rule_without_labels(alloc: Global, hand: &AtHand, number: u32) -> Result<Rule
     ensures { IfOk result (TellsRuleAt hand.now false number) }
 {
     let rule = hand.rules.get(number as usize);
-    let empty = is_empty(alloc, hand.universe, hand.env, hand.rules, number)?;
-    let findings = findings_of(alloc, hand, number)?;
+    let (findings, empty) = findings_and_emptiness(alloc, hand, number)?;
     report_of(rule, None, empty, findings)
 }
 
@@ -233,7 +232,7 @@ fn report_of(
     rule: &Rule,
     verdicts: Option<RuleVerdicts>,
     empty: bool,
-    findings: Seq<Finding>,
+    findings: Seq<ReportedFinding>,
 ) -> Result<RuleReport, Memory>
     ensures { (labels : Bool) (number : ℕ) (c : Checked) → c.rule ≡ rule_tree rule.now → verdicts ≡ (if labels then Some (verdicts_told c.first number c.rule c.verdict) else None) → empty ≡ is_empty c.verdict → map finding_in findings ≡ map finding_told c.found → IfOk result (λ told. rule_in told ≡ rule_told labels number c) }
 {

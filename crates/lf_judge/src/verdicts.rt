@@ -1,46 +1,40 @@
 //! What is known of the labels of a rule, as a report tells it.
 ghost use Rattle.std.specs.List.{list_any};
 ghost use Rattle.std.specs.Prelude.{◌≡◌, ◌<◌, Some, true, length, map, slice_get, IfOk};
-ghost use Rattle.lf_ast.specs.Rules.{RuleTree, rule_trees};
-ghost use Rattle.lf_semantics.specs.Environments.{IsLeast};
-ghost use Rattle.lf_semantics.specs.Listing.{universe_of};
+ghost use Rattle.lf_ast.specs.Rules.{RuleTree};
 ghost use Rattle.lf_worlds.specs.views.Told.{label_verdict, rule_verdict};
-ghost use Rattle.lf_judge.specs.Judged.{has_unresolved, is_unresolved, unresolved_told, verdict_told, verdicts_told, world_told};
-ghost use Rattle.lf_judge.specs.views.Checking.{TellsEmpty};
+ghost use Rattle.lf_judge.specs.Judged.{has_unresolved, is_unresolved, unresolved_told, verdict_told, verdicts_told};
 
 use crate::moving::taken_out;
-use lf_ast::{Rule, RuleVerdicts, Verdict, World};
+use lf_ast::{RuleVerdicts, Verdict};
 use lf_base::{Memory, Seq, Span};
-use lf_classes::Universe;
-use lf_fix::rule_row;
-use lf_flow::Env;
 use lf_open::OpenAt;
-use lf_worlds::{RuleVerdicts as RuleKnown, Verdict as Known, World as Shown};
+use lf_worlds::{LabelKnowledge, RuleKnowledge};
 use std::alloc::Global;
 
 /// Whether a label of the rule stays unresolved.
-pub fn has_unresolved(known: &RuleKnown) -> bool
+pub fn has_unresolved(known: &RuleKnowledge) -> bool
     ensures { result ≡ has_unresolved (rule_verdict known.now) }
 {
     match known {
-        RuleKnown::Empty => false,
-        RuleKnown::Labels { of } => any_unresolved(of.as_slice()),
+        RuleKnowledge::Empty => false,
+        RuleKnowledge::Labels { of } => any_unresolved(of.as_slice()),
     }
 }
 
 /// Whether one of these verdicts is that nothing is known.
-fn any_unresolved(known: &[Known]) -> bool
+fn any_unresolved(known: &[LabelKnowledge]) -> bool
     ensures { result ≡ list_any (λ v. is_unresolved (label_verdict v)) known.now }
 {
     known.iter().any(|verdict| is_unresolved(verdict))
 }
 
 /// Whether a verdict is that nothing is known.
-fn is_unresolved(known: &Known) -> bool
+fn is_unresolved(known: &LabelKnowledge) -> bool
     ensures { result ≡ is_unresolved (label_verdict known.now) }
 {
     match known {
-        Known::Unresolved => true,
+        LabelKnowledge::Unresolved => true,
         _ => false,
     }
 }
@@ -48,7 +42,7 @@ fn is_unresolved(known: &Known) -> bool
 /// Verdicts on the rule with a number, whose expression has this span, as a report tells them, by the first construct that stands open for it.
 pub fn rule_told(
     alloc: Global,
-    known: RuleKnown,
+    known: RuleKnowledge,
     first: Option<OpenAt>,
     number: u32,
     span: Span,
@@ -56,8 +50,8 @@ pub fn rule_told(
     ensures { (r : RuleTree) → r.expr_span ≡ span → IfOk result (λ told. told ≡ verdicts_told first number r (rule_verdict known)) }
 {
     match known {
-        RuleKnown::Empty => Ok(RuleVerdicts::Empty),
-        RuleKnown::Labels { of } => {
+        RuleKnowledge::Empty => Ok(RuleVerdicts::Empty),
+        RuleKnowledge::Labels { of } => {
             let of = each_told(alloc, of, first, number, span)?;
             Ok(RuleVerdicts::Labels { of })
         }
@@ -67,7 +61,7 @@ pub fn rule_told(
 /// The same of the verdicts on its labels. Their worlds aren't copied.
 fn each_told(
     alloc: Global,
-    known: Seq<Known>,
+    known: Seq<LabelKnowledge>,
     first: Option<OpenAt>,
     number: u32,
     span: Span,
@@ -83,17 +77,14 @@ fn each_told(
 }
 
 /// The same of a verdict.
-fn label_told(known: Known, first: Option<OpenAt>, number: u32, span: Span) -> Verdict
+fn label_told(known: LabelKnowledge, first: Option<OpenAt>, number: u32, span: Span) -> Verdict
     ensures { (r : RuleTree) → r.expr_span ≡ span → result ≡ verdict_told first number r (label_verdict known) }
 {
     match known {
-        Known::Guaranteed => Verdict::Guaranteed,
-        Known::Impossible => Verdict::Impossible,
-        Known::Possible { with, without } => Verdict::Possible {
-            with: world_told(with),
-            without: world_told(without),
-        },
-        Known::Unresolved => unresolved_told(first, number, span),
+        LabelKnowledge::Guaranteed => Verdict::Guaranteed,
+        LabelKnowledge::Impossible => Verdict::Impossible,
+        LabelKnowledge::Possible { with, without } => Verdict::Possible { with, without },
+        LabelKnowledge::Unresolved => unresolved_told(first, number, span),
     }
 }
 
@@ -113,32 +104,4 @@ fn unresolved_told(first: Option<OpenAt>, number: u32, span: Span) -> Verdict
             span,
         },
     }
-}
-
-/// The world that a trial shows.
-fn world_told(shown: Shown) -> World
-    ensures { result ≡ world_told shown }
-{
-    World {
-        series: shown.series,
-        steps: shown.steps,
-        sample: shown.sample,
-    }
-}
-
-/// Whether the rule with this number is empty, by the least environment. No trial is made.
-pub fn is_empty(
-    alloc: Global,
-    universe: &Universe,
-    env: &Env,
-    rules: &Seq<Rule>,
-    number: u32,
-) -> Result<bool, Memory>
-    requires universe { universe.now ≡ universe_of (rule_trees rules.now) }
-    requires least { IsLeast universe.now (rule_trees rules.now) env.now }
-    requires within { number < length rules.now }
-    ensures { (r : RuleTree) → slice_get (rule_trees rules.now) number ≡ Some r → IfOk result (TellsEmpty (rule_trees rules.now) env.now number r) }
-{
-    let row = rule_row(alloc, universe, env, rules.get(number as usize))?;
-    Ok(row.is_empty())
 }

@@ -1,4 +1,4 @@
-//! Tests of lf_flow: calls that the program doesn't make yet.
+//! Tests of lf_flow: the names of an environment and its rows by number, and what an expression reads. Of these calls the program doesn't make `reads` and `Env::name`.
 
 use lf_accept::accept;
 use lf_ast::Rule;

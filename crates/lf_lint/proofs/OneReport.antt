@@ -14,9 +14,9 @@ use Rattle.lf_report.specs.declared.report.Report.{Report}
 use Rattle.lf_lint.specs.Asked.{AreFiles, names_of, output_of, tells_labels, written}
 use Rattle.lf_lint.specs.Ends.{IsOutcome}
 use Rattle.lf_lint.proofs.SameBytes.{same_bytes}
-use Rattle.lf_lint.specs.Read.{IsRead}
+use Rattle.lf_lint.specs.Read.{IsReadFile}
 
-same_read : (stand : Bytes → Bytes) (names : List Bytes) (a b : List File) → AllZip (IsRead (λ name. Some (stand name))) names a → AllZip (IsRead (λ name. Some (stand name))) names b → a ≡ b
+same_read : (stand : Bytes → Bytes) (names : List Bytes) (a b : List File) → AllZip (IsReadFile (λ name. Some (stand name))) names a → AllZip (IsReadFile (λ name. Some (stand name))) names b → a ≡ b
 same_read stand [] [] [] p q = refl
 same_read stand [] [] (y ∷ b) p q = absurd q
 same_read stand [] (x ∷ a) b p q = absurd p

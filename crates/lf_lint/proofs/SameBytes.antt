@@ -22,7 +22,7 @@ use Rattle.lf_report.specs.Shown.{shown}
 use Rattle.lf_base.specs.Lines.{lines_text}
 use Rattle.lf_report.specs.Text.{file_lines, files_lines, finding_line, label_lines, report_text, rule_line, rule_lines, said_lines, totals_line, totals_lines, verdict_lines, verdict_text, verdicts_line}
 use Rattle.lf_report.specs.declared.report.FileReport.{FileReport}
-use Rattle.lf_report.specs.declared.report.Finding.{Finding}
+use Rattle.lf_report.specs.declared.report.ReportedFinding.{ReportedFinding}
 use Rattle.lf_report.specs.declared.report.Refused.{Refused}
 use Rattle.lf_report.specs.declared.report.Report.{Report}
 use Rattle.lf_report.specs.declared.report.RuleReport.{RuleReport}
@@ -92,20 +92,20 @@ flat_map_same {A} {X} f g same (x ∷ xs) = ap₂ (λ (z l : List X). z ++ l) (s
 
 -- ---- findings and rules that are told alike
 
-abbrev AreAlikeFindings : Finding → Finding → Type 0
+abbrev AreAlikeFindings : ReportedFinding → ReportedFinding → Type 0
 AreAlikeFindings f g = finding_in f ≡ finding_in g
 
 -- a finding, with the name of its check at the address that it has in another one
-abbrev at_address : Finding → Finding → Finding
+abbrev at_address : ReportedFinding → ReportedFinding → ReportedFinding
 at_address f g = record { check = record { ref_ptr = f.check.ref_ptr; now = g.check.now }; severity = g.severity; span = g.span; text = g.text }
 
-between : (f g : Finding) → AreAlikeFindings f g → f ≡ at_address f g
+between : (f g : ReportedFinding) → AreAlikeFindings f g → f ≡ at_address f g
 between f g e = λ i. record { check = record { ref_ptr = f.check.ref_ptr; now = (e i).check }; severity = (e i).severity; span = (e i).span; text = (e i).text }
 
 abbrev AreAlike : RuleReport → RuleReport → Type 0
 AreAlike r s = rule_in r ≡ rule_in s
 
-findings_alike : (fs gs : List Finding) → map finding_in fs ≡ map finding_in gs → AllZip AreAlikeFindings fs gs
+findings_alike : (fs gs : List ReportedFinding) → map finding_in fs ≡ map finding_in gs → AllZip AreAlikeFindings fs gs
 findings_alike [] [] e = tt
 findings_alike [] (g ∷ gs) e = absurd cc
 findings_alike (f ∷ fs) [] e = absurd cc
@@ -188,7 +188,7 @@ module _ (a b : Report) (same : TellTheSame a b) where
   same_verdict_lines file r s e None = refl
   same_verdict_lines file r s e (Some v) = ap₂ (λ (x : Bytes) (l : List Bytes). x ∷ l) (same_rule_line file r s e) (same_said v)
 
-  same_finding : (file : FileReport) (f g : Finding) → AreAlikeFindings f g → finding_line file f ≡ finding_line file g
+  same_finding : (file : FileReport) (f g : ReportedFinding) → AreAlikeFindings f g → finding_line file f ≡ finding_line file g
   same_finding file f g e = ap (finding_line file) (between f g e)
 
   same_rule : (file : FileReport) (r s : RuleReport) → AreAlike r s → rule_lines a file r ≡ rule_lines b file s
@@ -241,7 +241,7 @@ module _ (a b : Report) (same : TellTheSame a b) where
   same_labels_data None = refl
   same_labels_data (Some v) = ap list_data (same_said_items v)
 
-  same_finding_data : (file : FileReport) (f g : Finding) → AreAlikeFindings f g → finding_data file f ≡ finding_data file g
+  same_finding_data : (file : FileReport) (f g : ReportedFinding) → AreAlikeFindings f g → finding_data file f ≡ finding_data file g
   same_finding_data file f g e = ap (finding_data file) (between f g e)
 
   same_rule_data : (file : FileReport) (r s : RuleReport) → AreAlike r s → rule_data a file r ≡ rule_data b file s

@@ -4,7 +4,7 @@ use Rattle.std.proofs.Math.Seq.{drop-append_seam, take-add}
 use Rattle.std.proofs.lemmas.List.{take-append-drop}
 use Rattle.std.proofs.lemmas.Grind.{common_steps}
 use Rattle.lf_base.specs.declared.outside.Failed.{Failed}
-use Rattle.lf_base.specs.Outside.{Reads, Takes}
+use Rattle.lf_base.specs.Outside.{ReadsBytes, Takes}
 use Rattle.lf_lint.specs.Ends.{Wrote}
 use Rattle.lf_lint.specs.Read.{AreAsTold}
 
@@ -27,7 +27,7 @@ IsReadSoFar (Some held) (Some left) bytes = held ≡ bytes ++ left
 
 -- what was read grows by the bytes that a call gives
 pub read_more : (held left later : Option (List ℕ)) (old new : List ℕ) (filled count : ℕ) → IsReadSoFar held left (take filled old) → take filled new ≡ take filled old
-    → Reads left later (drop filled new) count → IsReadSoFar held later (take (filled + count) new)
+    → ReadsBytes left later (drop filled new) count → IsReadSoFar held later (take (filled + count) new)
 read_more None left later old new filled count h e r = tt
 read_more (Some held) None later old new filled count h e r = absurd h
 read_more (Some held) (Some left) None old new filled count h e r = absurd (cc (r.1))
@@ -37,7 +37,7 @@ read_more (Some held) (Some left) (Some rest) old new filled count h e r =
     rw (take-add, append_assoc, e, r.0, f, g) h
 
 -- a read of no bytes is the end of the file
-pub read_all : (held left later : Option (List ℕ)) (bytes buffer : List ℕ) (count : ℕ) → IsReadSoFar held left bytes → Reads left later buffer count → count ≡ 0 → AreAsTold held bytes
+pub read_all : (held left later : Option (List ℕ)) (bytes buffer : List ℕ) (count : ℕ) → IsReadSoFar held left bytes → ReadsBytes left later buffer count → count ≡ 0 → AreAsTold held bytes
 read_all None left later bytes buffer count h r z = tt
 read_all (Some held) None later bytes buffer count h r z = absurd h
 read_all (Some held) (Some left) later bytes buffer count h r z =

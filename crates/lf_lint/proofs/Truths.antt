@@ -22,7 +22,7 @@ use Rattle.lf_classes.specs.Limits.{most_classes, most_labels}
 use Rattle.lf_checks.specs.Files.{File}
 use Rattle.lf_checks.specs.Finding.{Finding}
 use Rattle.lf_checks.specs.Findings.{AreFindings}
-use Rattle.lf_checks.specs.Truths.{IsTrue as IsTrueFinding}
+use Rattle.lf_checks.specs.Truths.{IsTrueFinding}
 use Rattle.lf_checks.proofs.TrueFindings.{finding_is_true}
 use Rattle.lf_laws.proofs.Booleans.{clash}
 use Rattle.lf_laws.proofs.Members.{any_has, here}
@@ -38,12 +38,12 @@ use Rattle.lf_judge.specs.Judged.{AreChecked, Checked, IsReportOn, ToldRule, fin
 use Rattle.lf_judge.specs.Limits.{AreWithin}
 use Rattle.lf_open.specs.OpenList.{AreOpen, IsFirstOpen}
 use Rattle.lf_open.specs.declared.open_at.OpenAt.{OpenAt}
-use Rattle.lf_report.specs.declared.report.Finding.{Finding as ReportFinding}
+use Rattle.lf_report.specs.declared.report.ReportedFinding.{ReportedFinding}
 use Rattle.lf_report.specs.declared.report.Report.{Report}
 use Rattle.lf_report.specs.declared.report.RuleReport.{RuleReport}
 use Rattle.lf_shown.proofs.Resolved.{unresolved_is_open}
 use Rattle.lf_shown.proofs.Settled.{AreTyped}
-use Rattle.lf_lint.specs.Headline.{IsInWorld, IsTrue, IsTrueEmptiness, IsTrueReport, IsTrueSaid, IsTrueToldFinding, SpeaksTruth, label_for}
+use Rattle.lf_lint.specs.Headline.{IsInWorld, IsTrueVerdict, IsTrueEmptiness, IsTrueReport, IsTrueSaid, IsTrueToldFinding, SpeaksTruth, label_for}
 use Rattle.lf_lint.proofs.Accepted.{are_typed, no_star_in, set_no_name}
 use Rattle.lf_lint.proofs.Leaves.{few_named, label_for_at, label_for_same, leaves_absent, leaves_present}
 use Rattle.lf_lint.proofs.Shapes.{shape_rule}
@@ -122,7 +122,7 @@ module _ (rules : List RuleTree) (env : Environment) (shape : (r : RuleTree) →
         leaves_absent universe (universe_is_listing rules) label few rule_sets (shape r)
         ∙ ap (λ (k : ℕ). holds rule_sets k 0) (label_for_same universe names_few name)
 
-    true_unresolved : (first : Option OpenAt) → IsFirstOpen rules i first → IsLabelVerdict universe env rules i rule_sets label Unresolved → (AreOpen rules i [] → ⊥) → IsTrue rules env i r (unresolved_told first i r) name
+    true_unresolved : (first : Option OpenAt) → IsFirstOpen rules i first → IsLabelVerdict universe env rules i rule_sets label Unresolved → (AreOpen rules i [] → ⊥) → IsTrueVerdict rules env i r (unresolved_told first i r) name
     true_unresolved None is_first is refuted = absurd (refuted is_first)
     true_unresolved (Some first) is_first is refuted =
         record {
@@ -131,7 +131,7 @@ module _ (rules : List RuleTree) (env : Environment) (shape : (r : RuleTree) →
           unresolved = (λ e. ((sym same_present ∙ is.0.0, sym same_absent ∙ is.0.1), is.1), λ both. tt);
         }
 
-    true_verdict : (first : Option OpenAt) (v : LabelVerdict) → (is_unresolved v ≡ true → IsFirstOpen rules i first) → IsLabelVerdict universe env rules i rule_sets label v → IsTrue rules env i r (verdict_told first i r v) name
+    true_verdict : (first : Option OpenAt) (v : LabelVerdict) → (is_unresolved v ≡ true → IsFirstOpen rules i first) → IsLabelVerdict universe env rules i rule_sets label v → IsTrueVerdict rules env i r (verdict_told first i r v) name
     true_verdict first Guaranteed is_first is =
         let lacking : may_be_absent universe rule_sets name ≡ false = sym same_absent ∙ is in
         record {
@@ -220,7 +220,7 @@ module _ (rules : List RuleTree) (named : (r : RuleTree) → Contains rules r �
       let same : told.0 ≡ c.rule = (let e : Some told.0 ≡ Some c.rule = sym told.1 ∙ at in cc) in
       subst (λ (r : RuleTree). IsTrueFinding rules r f) same told.2
 
-  true_finding : (files : List File) (i : ℕ) (c : Checked) (told : RuleReport) → slice_get rules i ≡ Some c.rule → AreFindings files rules env i c.found → map finding_in told.findings ≡ map finding_told c.found → (k : ℕ) (finding : ReportFinding)
+  true_finding : (files : List File) (i : ℕ) (c : Checked) (told : RuleReport) → slice_get rules i ≡ Some c.rule → AreFindings files rules env i c.found → map finding_in told.findings ≡ map finding_told c.found → (k : ℕ) (finding : ReportedFinding)
       → slice_get told.findings k ≡ Some finding → IsTrueToldFinding rules c.rule finding
   true_finding files i c told at are same k finding here =
       let there : slice_get (map finding_told c.found) k ≡ Some (finding_in finding) = ap (λ l. slice_get l k) (sym same) ∙ to_map_at finding_in told.findings k finding here in

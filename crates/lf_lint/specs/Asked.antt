@@ -12,7 +12,7 @@ use Rattle.lf_words.specs.declared.options.Options.{Options}
 use Rattle.lf_words.specs.declared.options.Options.TheVariants.{Lint, Gen}
 use Rattle.lf_lint.specs.declared.output.Output.{Output}
 use Rattle.lf_lint.specs.declared.output.Output.TheVariants.{Text, Json, Totals}
-use Rattle.lf_lint.specs.Read.{IsRead}
+use Rattle.lf_lint.specs.Read.{IsReadFile}
 
 -- a report is written as text or as JSON, and of the one on the generated file only the totals are
 abbrev pub output_of : Options → Output
@@ -42,5 +42,5 @@ names_of (Gen n) = []
 
 -- the report is on these files: those named, with the bytes that stand under their names, or the generated one
 abbrev pub AreFiles : Options → (Bytes → Option Bytes) → List File → Type 0
-AreFiles (Lint workers json labels names) held files = AllZip (IsRead held) names files
+AreFiles (Lint workers json labels names) held files = AllZip (IsReadFile held) names files
 AreFiles (Gen n) held files = files ≡ record { name = codes "gen.yml"; bytes = generated n } ∷ []

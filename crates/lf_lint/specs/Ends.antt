@@ -3,7 +3,7 @@ use Rattle.std.specs.Prelude.{◌≡◌, ◌⊎◌, ℕ, ◌+◌, ◌<◌, ◌�
 use Rattle.lf_ast.specs.Labels.{Bytes}
 use Rattle.lf_checks.specs.Files.{File}
 use Rattle.lf_judge.specs.Judged.{IsReportOn}
-use Rattle.lf_judge.specs.Limits.{EndsIn, Fit}
+use Rattle.lf_judge.specs.Limits.{EndsIn, AreWithinLimits}
 use Rattle.lf_judge.specs.declared.judge_end.JudgeEnd.TheVariants as judge_end
 use Rattle.lf_report.specs.Counts.{problem_count, refused_count}
 use Rattle.lf_report.specs.declared.report.Report.{Report}
@@ -12,7 +12,7 @@ use Rattle.lf_words.specs.declared.options.Options.{Options}
 use Rattle.lf_lint.specs.declared.status.Status.{Status}
 use Rattle.lf_lint.specs.declared.status.Status.TheVariants.{Clean, Problems, Words, Refused, Read, Write, Memory, Limit}
 use Rattle.lf_lint.specs.Asked.{AreFiles, names_of, output_of, tells_labels, written}
-use Rattle.lf_lint.specs.Read.{AreShort, IsReached, IsTooLong, most_files}
+use Rattle.lf_lint.specs.Read.{AreShort, AreReadBefore, IsTooLong, most_files}
 
 -- these bytes were added to those taken, where the object tells them
 abbrev pub Wrote : Option Bytes → Option Bytes → Bytes → Type 0
@@ -34,7 +34,7 @@ pub record Judged (words : List Bytes) (held : Bytes → Option Bytes) (options 
   pub few : length (names_of options) ≤ most_files
   pub are_files : AreFiles options held files
   pub are_short : AreShort files
-  pub fit : Fit (tells_labels options) files
+  pub fit : AreWithinLimits (tells_labels options) files
   pub is_report : IsReportOn files (tells_labels options) report
 
 -- how a report ends a run once it is written: with a refusal, with a problem, or with neither. Notes don't matter
@@ -54,9 +54,9 @@ WrotePart words held before now =
     × (k : ℕ) × (k < length (written (output_of options) report)) × Wrote before now (take k (written (output_of options) report))
 
 -- the words ask for a file with this number, which could not be opened or read to its end; those before it pass no limit
-abbrev pub IsUnread : List Bytes → (Bytes → Option Bytes) → ℕ → Type 0
-IsUnread words held file =
-    (options : Options) × Asks words options × (length (names_of options) ≤ most_files) × IsReached held (names_of options) file
+abbrev pub IsUnreadFile : List Bytes → (Bytes → Option Bytes) → ℕ → Type 0
+IsUnreadFile words held file =
+    (options : Options) × Asks words options × (length (names_of options) ≤ most_files) × AreReadBefore held (names_of options) file
 
 -- more files are named than may be, and none was opened
 pub record HasTooManyFiles (names : List Bytes) (opened quantity count : ℕ) : Type 0 where
@@ -89,8 +89,8 @@ PassesLimit held left options opened quantity count =
     ⊎ (HasTooManyBytes held left (names_of options) opened quantity count ⊎ HasTooManyRules held options opened quantity count)
 
 -- the same of what the words ask for
-abbrev pub Passes : List Bytes → (Bytes → Option Bytes) → Option Bytes → ℕ → ℕ → ℕ → Type 0
-Passes words held left opened quantity count =
+abbrev pub WordsPassLimit : List Bytes → (Bytes → Option Bytes) → Option Bytes → ℕ → ℕ → ℕ → Type 0
+WordsPassLimit words held left opened quantity count =
     (options : Options) × Asks words options × PassesLimit held left options opened quantity count
 
 -- the ends after which nothing was written

@@ -11,13 +11,13 @@ use Rattle.lf_ast.specs.declared.verdict.Verdict.TheVariants.{Guaranteed, Imposs
 use Rattle.lf_ast.specs.declared.verdict.World.{World as ShownWorld}
 use Rattle.lf_checks.specs.Files.{File}
 use Rattle.lf_checks.specs.Finding.{Finding}
-use Rattle.lf_checks.specs.Truths.{IsTrue as IsTrueFinding}
+use Rattle.lf_checks.specs.Truths.{IsTrueFinding}
 use Rattle.lf_judge.specs.Founds.{AreContents, Content, accepted}
 use Rattle.lf_judge.specs.Judged.{files_told, finding_in, finding_told, labels_of}
 use Rattle.lf_open.specs.Constructs.{number_of}
 use Rattle.lf_open.specs.OpenList.{AreOpen}
 use Rattle.lf_open.specs.declared.open_at.OpenAt.{OpenAt}
-use Rattle.lf_report.specs.declared.report.Finding.{Finding as ReportFinding}
+use Rattle.lf_report.specs.declared.report.ReportedFinding.{ReportedFinding}
 use Rattle.lf_report.specs.declared.report.Report.{Report}
 use Rattle.lf_report.specs.declared.report.RuleReport.{RuleReport}
 use Rattle.lf_semantics.specs.ClassRows.{is_live}
@@ -67,8 +67,8 @@ IsTrueOf rules i r (Unresolved construct rule span) label name =
     (first : OpenAt) × (later : List OpenAt) × AreOpen rules i (first ∷ later) × (construct ≡ number_of first.construct) × (rule ≡ first.rule) × (span ≡ first.span)
 
 -- the row of the rule in the environment leaves both open, that the name is there and that it isn't
-abbrev pub LeavesBoth : List RuleTree → Environment → RuleTree → Bytes → Type 0
-LeavesBoth rules env r name =
+abbrev pub LeavesOpen : List RuleTree → Environment → RuleTree → Bytes → Type 0
+LeavesOpen rules env r name =
     let u = universe_of rules in
     (may_be_present u (rule_row u env r) name ≡ true) × (may_be_absent u (rule_row u env r) name ≡ true)
 
@@ -77,11 +77,11 @@ abbrev pub LacksATrial : List RuleTree → Environment → ℕ → Bytes → Typ
 LacksATrial rules env i label = IsNotShown (universe_of rules) env rules i label true ⊎ IsNotShown (universe_of rules) env rules i label false
 
 -- neither guaranteed nor impossible
-abbrev pub IsOpen : Verdict → Type 0
-IsOpen Guaranteed = ⊥
-IsOpen Impossible = ⊥
-IsOpen (Possible with without) = Unit {0}
-IsOpen (Unresolved construct rule span) = Unit {0}
+abbrev pub IsUndecided : Verdict → Type 0
+IsUndecided Guaranteed = ⊥
+IsUndecided Impossible = ⊥
+IsUndecided (Possible with without) = Unit {0}
+IsUndecided (Unresolved construct rule span) = Unit {0}
 
 abbrev pub IsUnresolved : Verdict → Type 0
 IsUnresolved Guaranteed = ⊥
@@ -90,10 +90,10 @@ IsUnresolved (Possible with without) = ⊥
 IsUnresolved (Unresolved construct rule span) = Unit {0}
 
 -- the verdict is true of the name; it is open exactly where the row leaves both open, and unresolved exactly where moreover no trials show both of the label for the name
-pub record IsTrue (rules : List RuleTree) (env : Environment) (i : ℕ) (r : RuleTree) (verdict : Verdict) (name : Bytes) : Type 0 where
+pub record IsTrueVerdict (rules : List RuleTree) (env : Environment) (i : ℕ) (r : RuleTree) (verdict : Verdict) (name : Bytes) : Type 0 where
   pub true_of : IsTrueOf rules i r verdict (label_for (universe_of rules) name) name
-  pub is_open : IsOpen verdict ↔ LeavesBoth rules env r name
-  pub unresolved : IsUnresolved verdict ↔ (LeavesBoth rules env r name × LacksATrial rules env i (label_for (universe_of rules) name))
+  pub is_open : IsUndecided verdict ↔ LeavesOpen rules env r name
+  pub unresolved : IsUnresolved verdict ↔ (LeavesOpen rules env r name × LacksATrial rules env i (label_for (universe_of rules) name))
 
 -- A rule called empty has no sample in any world, and it is so called exactly where its row is empty
 pub record IsTrueEmptiness (rules : List RuleTree) (env : Environment) (r : RuleTree) (empty : Bool) : Type 0 where
@@ -109,10 +109,10 @@ IsTrueSaid rules env i r labels (Some (OnLabels verdicts)) =
     (labels ≡ true)
     × (is_live (rule_row (universe_of rules) env r) ≡ true)
     × (length verdicts ≡ length (labels_of (universe_of rules)))
-    × ((name : Bytes) → (verdict : Verdict) × (slice_get verdicts (label_of (universe_of rules) name) ≡ Some verdict) × IsTrue rules env i r verdict name)
+    × ((name : Bytes) → (verdict : Verdict) × (slice_get verdicts (label_of (universe_of rules) name) ≡ Some verdict) × IsTrueVerdict rules env i r verdict name)
 
 -- a finding that is told is one of the checks, and what it claims of samples is true in every world of the rules
-abbrev pub IsTrueToldFinding : List RuleTree → RuleTree → ReportFinding → Type 0
+abbrev pub IsTrueToldFinding : List RuleTree → RuleTree → ReportedFinding → Type 0
 IsTrueToldFinding rules r told = (finding : Finding) × (finding_told finding ≡ finding_in told) × IsTrueFinding rules r finding
 
 -- what is told is told of rule i, and true of it
@@ -123,7 +123,7 @@ pub record SpeaksTruth (rules : List RuleTree) (env : Environment) (labels : Boo
   pub name_span : told.name_span ≡ r.name_span
   pub empty : IsTrueEmptiness rules env r told.empty
   pub said : IsTrueSaid rules env i r labels told.verdicts
-  pub findings : (k : ℕ) (finding : ReportFinding) → slice_get told.findings k ≡ Some finding → IsTrueToldFinding rules r finding
+  pub findings : (k : ℕ) (finding : ReportedFinding) → slice_get told.findings k ≡ Some finding → IsTrueToldFinding rules r finding
 
 -- A report on files: what is found in each file, with the rules of those that aren't refused in their order; and of each rule what is told of it, all of which is true
 pub record IsTrueReport (files : List File) (rules : List RuleTree) (report : Report) : Type 0 where

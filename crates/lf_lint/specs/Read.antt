@@ -22,8 +22,8 @@ AreAsTold None bytes = Unit {0}
 AreAsTold (Some told) bytes = bytes ≡ told
 
 -- the file of this name, with its bytes as the object tells them
-abbrev pub IsRead : (Bytes → Option Bytes) → Bytes → File → Type 0
-IsRead held name file = (file.name ≡ name) × AreAsTold (held name) file.bytes
+abbrev pub IsReadFile : (Bytes → Option Bytes) → Bytes → File → Type 0
+IsReadFile held name file = (file.name ≡ name) × AreAsTold (held name) file.bytes
 
 -- the bytes of all files
 abbrev pub byte_count : List File → ℕ
@@ -46,16 +46,16 @@ IsPassedBehind before quantity count =
     ⊎ ((most_bytes_in_all < before + most_bytes) × (quantity ≡ 3) × (count ≡ 16777217))
 
 -- of the files of these names, those before the one with this number are as the object tells them, and pass no limit
-pub record IsReached (held : Bytes → Option Bytes) (names : List Bytes) (k : ℕ) : Type 0 where
+pub record AreReadBefore (held : Bytes → Option Bytes) (names : List Bytes) (k : ℕ) : Type 0 where
   pub name : Bytes
   pub is_named : slice_get names k ≡ Some name
   pub before : List File
-  pub are_read : AllZip (IsRead held) (take k names) before
+  pub are_read : AllZip (IsReadFile held) (take k names) before
   pub are_short : AreShort before
 
 -- the file with this number has more bytes than there is room for; reading stopped right behind the first of them, where the object tells what is left
 pub record IsTooLong (held : Bytes → Option Bytes) (left : Option Bytes) (names : List Bytes) (k quantity count : ℕ) : Type 0 where
-  pub reached : IsReached held names k
+  pub reached : AreReadBefore held names k
   pub bytes : Bytes
   pub told : AreAsTold (held reached.name) bytes
   pub longer : room_behind (byte_count reached.before) < length bytes

@@ -5,7 +5,7 @@ ghost use Rattle.lf_words.specs.Grammar.{Asks};
 ghost use Rattle.lf_words.specs.declared.options.Options.{Options};
 ghost use Rattle.lf_lint.specs.Asked.{names_of};
 ghost use Rattle.lf_judge.specs.Judged.{TellTheSame};
-ghost use Rattle.lf_lint.specs.Ends.{IsOfReport, IsOutcome, IsSilent, IsUnread, Passes, WroteAll, WrotePart};
+ghost use Rattle.lf_lint.specs.Ends.{IsOfReport, IsOutcome, IsSilent, IsUnreadFile, WordsPassLimit, WroteAll, WrotePart};
 ghost use Rattle.lf_lint.specs.Headline.{WroteTruth};
 
 use crate::making::make;
@@ -48,8 +48,8 @@ pub fn lint<R: Threads + Sync, F: Files, O: Sink, G: Gate + Sync>(
     ensures one_report { (stand : List ℕ → List ℕ) (a b : Report) (c d : List ℕ) → IsOutcome (map string_bytes words.now) stand a c → IsOutcome (map string_bytes words.now) stand b d → TellTheSame a b × (c ≡ d) }
 
     // A file's number is that of the last call of `open`.
-    ensures read { (file : ℕ) → result ≡ Status.Read file → (F.faults files.old < F.faults files.new) × (F.opens files.new ≡ F.opens files.old + (file + 1)) × IsUnread (map string_bytes words.now) (F.held files.old) file }
-    ensures limit { (quantity count : ℕ) → result ≡ Status.Limit quantity count → (opened : ℕ) × (F.opens files.new ≡ F.opens files.old + opened) × Passes (map string_bytes words.now) (F.held files.old) (F.left files.new) opened quantity count }
+    ensures read { (file : ℕ) → result ≡ Status.Read file → (F.faults files.old < F.faults files.new) × (F.opens files.new ≡ F.opens files.old + (file + 1)) × IsUnreadFile (map string_bytes words.now) (F.held files.old) file }
+    ensures limit { (quantity count : ℕ) → result ≡ Status.Limit quantity count → (opened : ℕ) × (F.opens files.new ≡ F.opens files.old + opened) × WordsPassLimit (map string_bytes words.now) (F.held files.old) (F.left files.new) opened quantity count }
 
     // Each file is opened once where the report was written whole or in part, and at most once else.
     ensures opened { (options : Options) → Asks (map string_bytes words.now) options → IsOfReport result → F.opens files.new ≡ F.opens files.old + length (names_of options) }

@@ -14,7 +14,7 @@ use crate::output::{Output, render, with_labels, worker_count};
 use crate::sources::sources_of;
 use crate::unreported::Unreported;
 use lf_base::{Files, Gate, Memory, Seq, Text};
-use lf_judge::{Source, judge};
+use lf_judge::{SourceFile, judge};
 use lf_report::Report;
 use lf_words::Options;
 use std::alloc::Global;
@@ -22,7 +22,7 @@ use std::thread::Threads;
 
 /// A report as it is written, and how it ends a run once it is.
 #[derive(Drop)]
-pub struct Made {
+pub struct FinishedReport {
     pub text: Text,
     pub status: Status,
 }
@@ -34,7 +34,7 @@ pub fn make<R: Threads + Sync, F: Files, G: Gate + Sync>(
     options: &Options,
     files: &mut F,
     gate: &G,
-) -> Result<Made, Unreported>
+) -> Result<FinishedReport, Unreported>
     requires calm { F.faults files.old ≡ 0 }
     requires opens { F.opens files.old ≤ 2 ^ 31 }
     requires asked { (words : List (List ℕ)) × Asks words options.now }
@@ -54,9 +54,9 @@ fn make_of<R: Threads + Sync, G: Gate + Sync>(
     rt: &R,
     alloc: Global,
     options: &Options,
-    sources: &Seq<Source>,
+    sources: &Seq<SourceFile>,
     gate: &G,
-) -> Result<Made, Unreported>
+) -> Result<FinishedReport, Unreported>
     requires short { AreShort (files_of sources.now) }
     requires few { length sources.now ≤ most_files }
     requires workers { (0 < workers_of options.now) × (workers_of options.now ≤ 64) }
@@ -65,13 +65,13 @@ fn make_of<R: Threads + Sync, G: Gate + Sync>(
 {
     let labels = with_labels(options);
     let report = judge(rt, alloc, sources, labels, worker_count(options), gate)?;
-    let made = Made::of(alloc, Output::of(options), &report)?;
+    let made = FinishedReport::of(alloc, Output::of(options), &report)?;
     Ok(made)
 }
 
-impl Made {
+impl FinishedReport {
     /// The report in this form.
-    fn of(alloc: Global, output: Output, report: &Report) -> Result<Made, Memory>
+    fn of(alloc: Global, output: Output, report: &Report) -> Result<FinishedReport, Memory>
         requires files { StandInFiles report.now }
         requires rules { NameRules report.now }
         ensures text { IfOk result (λ made. made.text ≡ written output report.now) }
@@ -79,7 +79,7 @@ impl Made {
     {
         let text = render(alloc, output, report)?;
         let status = ending(report);
-        Ok(Made { text, status })
+        Ok(FinishedReport { text, status })
     }
 }
 

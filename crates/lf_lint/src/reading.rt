@@ -1,6 +1,6 @@
 //! The reading of a whole file.
 ghost use Rattle.std.specs.Prelude.{◌≡◌, ◌≢◌, ℕ, List, ◌+◌, ◌-◌, ◌<◌, ◌≤◌, ◌^◌, Err, length, take, drop, vec_len, IfOk, OnOk};
-ghost use Rattle.lf_base.specs.Outside.{Faults, Reads};
+ghost use Rattle.lf_base.specs.Outside.{Faults, ReadsBytes};
 ghost use Rattle.lf_lint.specs.Read.{AreAsTold};
 
 use lf_base::{Failed, Files, Memory, Seq, Text};
@@ -116,7 +116,7 @@ fn read_at<F: Files>(files: &mut F, bytes: &mut Vec<u8>, at: usize) -> Result<us
     ensures counted { F.opens files.new ≡ F.opens files.old }
     ensures ready { OnOk result (F.is_open files.new) }
     ensures within { IfOk result (λ n. at + n ≤ vec_len bytes.new) }
-    ensures next { IfOk result (Reads (F.left files.old) (F.left files.new) (drop at bytes.new.items)) }
+    ensures next { IfOk result (ReadsBytes (F.left files.old) (F.left files.new) (drop at bytes.new.items)) }
     ensures kept { (other : List ℕ) → F.held files.new other ≡ F.held files.old other }
 
     ensures len { vec_len bytes.new ≡ vec_len bytes.old }

@@ -6,14 +6,14 @@ ghost use Rattle.lf_judge.specs.Judged.{file_of, files_of};
 ghost use Rattle.lf_words.specs.Grammar.{Asks};
 ghost use Rattle.lf_lint.specs.declared.reading.ReadEnd.TheVariants as read_end;
 ghost use Rattle.lf_lint.specs.Asked.{names_of};
-ghost use Rattle.lf_lint.specs.Read.{AreAsTold, AreShort, IsRead, most_bytes_in_all, most_files, room_behind};
+ghost use Rattle.lf_lint.specs.Read.{AreAsTold, AreShort, IsReadFile, most_bytes_in_all, most_files, room_behind};
 ghost use Rattle.lf_lint.specs.views.Making.{AreGathered, IsWhyUnread, unread_by};
 
 use crate::reading::{ReadEnd, read_whole};
 use crate::unreported::Unreported;
 use lf_base::{Files, Memory, Seq, Text};
 use lf_gen::gen_text;
-use lf_judge::Source;
+use lf_judge::SourceFile;
 use lf_words::Options;
 use std::alloc::Global;
 
@@ -38,7 +38,7 @@ pub fn sources_of<F: Files>(
     alloc: Global,
     options: &Options,
     files: &mut F,
-) -> Result<Seq<Source>, Unreported>
+) -> Result<Seq<SourceFile>, Unreported>
     requires calm { F.faults files.old ≡ 0 }
     requires opens { F.opens files.old ≤ 2 ^ 31 }
     requires asked { (words : List (List ℕ)) × Asks words options.now }
@@ -61,7 +61,7 @@ pub fn sources_of<F: Files>(
 }
 
 /// The generated file of `n` rules.
-fn generated_source(alloc: Global, n: u32) -> Result<Source, Memory>
+fn generated_source(alloc: Global, n: u32) -> Result<SourceFile, Memory>
     requires some { 1 ≤ n }
     requires most { n ≤ 4000 }
     ensures name { IfOk result (λ source. source.name ≡ codes "gen.yml") }
@@ -70,7 +70,7 @@ fn generated_source(alloc: Global, n: u32) -> Result<Source, Memory>
     let text = gen_text(alloc, n)?;
     let name = Text::of(alloc, "gen.yml")?;
     let bytes = Seq::of(alloc, text.as_str().as_bytes())?;
-    Ok(Source { name, bytes })
+    Ok(SourceFile { name, bytes })
 }
 
 /// The files of these names, each read whole, in their order.
@@ -78,12 +78,12 @@ fn read_files<F: Files>(
     alloc: Global,
     names: &[Text],
     files: &mut F,
-) -> Result<Seq<Source>, Unreported>
+) -> Result<Seq<SourceFile>, Unreported>
     requires calm { F.faults files.old ≡ 0 }
     requires opens { F.opens files.old ≤ 2 ^ 31 }
 
     ensures few { OnOk result (length names.now ≤ most_files) }
-    ensures read { IfOk result (λ sources. AllZip (IsRead (F.held files.old)) names.now (files_of sources)) }
+    ensures read { IfOk result (λ sources. AllZip (IsReadFile (F.held files.old)) names.now (files_of sources)) }
     ensures short { IfOk result (λ sources. AreShort (files_of sources)) }
     ensures why { IfErr result (λ why. (opened : ℕ) × (F.opens files.new ≡ F.opens files.old + opened) × IsWhyUnread (F.held files.old) (F.left files.new) names.now (F.faults files.old) (F.faults files.new) opened why) }
     ensures opened { OnOk result (F.opens files.new ≡ F.opens files.old + length names.now) }
@@ -106,14 +106,14 @@ fn read_each<F: Files>(
     alloc: Global,
     names: &[Text],
     files: &mut F,
-    sources: &mut Seq<Source>,
+    sources: &mut Seq<SourceFile>,
 ) -> Result<(), Unreported>
     requires calm { F.faults files.old ≡ 0 }
     requires opens { F.opens files.old ≤ 2 ^ 31 }
     requires few { length names.now ≤ most_files }
     requires none { sources.old ≡ [] }
 
-    ensures read { OnOk result (AllZip (IsRead (F.held files.old)) names.now (files_of sources.new)) }
+    ensures read { OnOk result (AllZip (IsReadFile (F.held files.old)) names.now (files_of sources.new)) }
     ensures short { OnOk result (AreShort (files_of sources.new)) }
     ensures why { IfErr result (λ why. (opened : ℕ) × (F.opens files.new ≡ F.opens files.old + opened) × IsWhyUnread (F.held files.old) (F.left files.new) names.now (F.faults files.old) (F.faults files.new) opened why) }
     ensures opened { OnOk result (F.opens files.new ≡ F.opens files.old + length names.now) }
@@ -136,13 +136,13 @@ fn read_next<F: Files>(
     files: &mut F,
     name: &Text,
     before: u32,
-    sources: &mut Seq<Source>,
+    sources: &mut Seq<SourceFile>,
 ) -> Result<u32, ReadEnd>
     requires calm { F.faults files.old ≡ 0 }
     requires opens { F.opens files.old < 2 ^ 32 }
     requires within { before ≤ most_bytes_in_all }
 
-    ensures read { IfOk result (λ count. (source : Source) × (sources.new ≡ sources.old ++ source ∷ []) × IsRead (F.held files.old) name.now (file_of source) × (length source.bytes ≡ count)) }
+    ensures read { IfOk result (λ count. (source : SourceFile) × (sources.new ≡ sources.old ++ source ∷ []) × IsReadFile (F.held files.old) name.now (file_of source) × (length source.bytes ≡ count)) }
     ensures within { IfOk result (λ count. count ≤ room_behind before) }
     ensures failed { result ≡ Err read_end.Failed → F.faults files.old < F.faults files.new }
     ensures too_long { result ≡ Err read_end.TooLong → (bytes : List ℕ) × AreAsTold (F.held files.old name.now) bytes × (room_behind before < length bytes) × AreAsTold (F.left files.new) (drop (room_behind before + 1) bytes) }
@@ -156,7 +156,7 @@ fn read_next<F: Files>(
     let name_of_file = name.copy()?;
     let bytes = read_whole(alloc, files, name, most)?;
     let count = bytes.len() as u32;
-    sources.push(Source {
+    sources.push(SourceFile {
         name: name_of_file,
         bytes,
     })?;

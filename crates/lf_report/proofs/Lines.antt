@@ -13,7 +13,7 @@ use Rattle.lf_base.specs.Lines.{lines_text}
 use Rattle.lf_report.specs.Text.{file_lines, finding_line, label_line, label_lines, rule_lines, totals_line, totals_lines, verdicts_line}
 use Rattle.lf_report.specs.declared.counting.Totals.{Totals}
 use Rattle.lf_report.specs.declared.report.FileReport.{FileReport}
-use Rattle.lf_report.specs.declared.report.Finding.{Finding}
+use Rattle.lf_report.specs.declared.report.ReportedFinding.{ReportedFinding}
 use Rattle.lf_report.specs.declared.report.Report.{Report}
 use Rattle.lf_report.specs.declared.report.RuleReport.{RuleReport}
 use Rattle.lf_report.specs.views.Totals.{AreTotals}
@@ -106,13 +106,13 @@ module _ (report : Report) where
       before ∙ ap (λ l. start ++ lines_text l) (lines_all names said k (omega (arith, len)) i (λ a b. end (omega (arith, len)) b))
 
 module _ (it : FileReport) where
-  pub findings_more : (findings : List Finding) (k : ℕ) (finding : Finding) (start old new : Bytes) → k < length findings → finding ≡ get_or findings k finding
+  pub findings_more : (findings : List ReportedFinding) (k : ℕ) (finding : ReportedFinding) (start old new : Bytes) → k < length findings → finding ≡ get_or findings k finding
       → old ≡ start ++ lines_text (map (finding_line it) (take k findings)) → new ≡ old ++ lines_text (finding_line it finding ∷ [])
       → new ≡ start ++ lines_text (map (finding_line it) (take (k + 1) findings))
   findings_more findings k finding start old new h is before pushed =
       appended_lines start (map (finding_line it) (take k findings)) (finding_line it finding ∷ []) before pushed
       ∙ ap (λ l. start ++ lines_text l) (sym (map_more (finding_line it) findings k finding h
-      ∙ ap (λ (x : Finding). map (finding_line it) (take k findings) ++ finding_line it x ∷ []) (sym is)))
+      ∙ ap (λ (x : ReportedFinding). map (finding_line it) (take k findings) ++ finding_line it x ∷ []) (sym is)))
 
 -- the totals, with those of verdicts
 pub totals_told : (report : Report) (totals : Totals) (start first second : Bytes) → AreTotals report.rules totals → report.labels ≡ true

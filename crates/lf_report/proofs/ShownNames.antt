@@ -1,5 +1,7 @@
 -- How the shown form of a name goes with its characters.
-use Rattle.std.proofs.Common.{◌≡◌, ℕ, ◌+◌, ◌/◌, ◌%◌, ◌≤◌, Bool, true, false, cond, nat_lt, List, [], ◌∷◌, ◌++◌, map, refl, sym, ap, ◌∙◌, arith, append-nil}
+use Rattle.std.proofs.Common.{◌≡◌, ℕ, ◌+◌, ◌/◌, ◌%◌, ◌≤◌, Bool, true, false, true≢false, cond, not, nat_lt, ◌&&◌, ◌||◌, ◌==◌, List, [], ◌∷◌, ◌++◌, codes, map, refl, sym, ap, ◌∙◌, arith, append-nil}
+use Rattle.std.specs.Fmt.{digit_glyph}
+use Rattle.std.specs.List.{list_all}
 use Rattle.std.proofs.lemmas.Bool.Decides.{nat_tests}
 use Rattle.std.proofs.lemmas.List.Concat.{flat_map-append}
 use Rattle.std.proofs.lemmas.Str.{encodes-append, encodes-chars}
@@ -8,6 +10,7 @@ use Rattle.std.specs.Str.{IsUtf8, chars}
 use lib.Utf8.{encode, encodes}
 use Rattle.lf_ast.specs.Labels.{Bytes}
 use Rattle.lf_report.specs.Shown.{shown, shown_byte}
+use Rattle.lf_report.specs.views.PlainNames.{is_plain}
 
 -- a byte of a character that isn't a control character
 pub shown_byte-other : (b : ℕ) → IsNotAsciiControl b → shown_byte b ≡ b ∷ []
@@ -54,3 +57,12 @@ map_same (c ∷ cs) = ap (λ l. c ∷ l) (map_same cs)
 -- all characters of a name
 pub shown_all : (name cs : List ℕ) → IsUtf8 name → map (λ c. c) cs ≡ chars name → shown (encodes cs) ≡ shown name
 shown_all name cs text all = ap (λ l. shown (encodes l)) (sym (map_same cs) ∙ all) ∙ ap shown (encodes-chars name text)
+
+-- a name without a control character
+pub shown_plain : (name : Bytes) → list_all is_plain name ≡ true → shown name ≡ name
+shown_plain [] e = refl
+shown_plain (b ∷ bs) e = by (nat_lt b 32 || b == 127) e (shown_plain bs)
+  where
+    by : (c : Bool) → (not c && list_all is_plain bs) ≡ true → (list_all is_plain bs ≡ true → shown bs ≡ bs) → cond c (codes "\\x" ++ digit_glyph false (b / 16) ∷ digit_glyph false (b % 16) ∷ []) (b ∷ []) ++ shown bs ≡ b ∷ bs
+    by true absurd_is _ = absurd (true≢false (sym absurd_is))
+    by false rest more = ap (λ l. b ∷ l) (more rest)

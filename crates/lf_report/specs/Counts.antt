@@ -7,7 +7,7 @@ use Rattle.lf_ast.specs.declared.verdict.Verdict.{Verdict}
 use Rattle.lf_ast.specs.declared.verdict.Verdict.TheVariants.{Guaranteed, Impossible, Possible, Unresolved}
 use Rattle.lf_report.specs.Numbers.{labels_of}
 use Rattle.lf_report.specs.declared.report.FileReport.{FileReport}
-use Rattle.lf_report.specs.declared.report.Finding.{Finding}
+use Rattle.lf_report.specs.declared.report.ReportedFinding.{ReportedFinding}
 use Rattle.lf_report.specs.declared.report.Report.{Report}
 use Rattle.lf_report.specs.declared.report.RuleReport.{RuleReport}
 use Rattle.lf_report.specs.declared.report.Severity.{Severity}
@@ -17,14 +17,14 @@ abbrev pub is_grave : Severity → Bool
 is_grave Problem = true
 is_grave Note = false
 
-abbrev pub is_problem : Finding → Bool
+abbrev pub is_problem : ReportedFinding → Bool
 is_problem finding = is_grave finding.severity
 
-abbrev pub is_note : Finding → Bool
+abbrev pub is_note : ReportedFinding → Bool
 is_note finding = not (is_problem finding)
 
 -- the findings of rules
-abbrev pub findings_of : List RuleReport → List Finding
+abbrev pub findings_of : List RuleReport → List ReportedFinding
 findings_of rules = flat_map (λ (rule : RuleReport). rule.findings) rules
 
 -- how many findings are problems

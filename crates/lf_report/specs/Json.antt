@@ -18,7 +18,7 @@ use Rattle.lf_report.specs.Numbers.{numbered, rules_of}
 use Rattle.lf_report.specs.Places.{place_in_rule}
 use Rattle.lf_report.specs.Text.{severity_name}
 use Rattle.lf_report.specs.declared.report.FileReport.{FileReport}
-use Rattle.lf_report.specs.declared.report.Finding.{Finding}
+use Rattle.lf_report.specs.declared.report.ReportedFinding.{ReportedFinding}
 use Rattle.lf_report.specs.declared.report.Refused.{Refused}
 use Rattle.lf_report.specs.declared.report.Report.{Report}
 use Rattle.lf_report.specs.declared.report.RuleReport.{RuleReport}
@@ -89,7 +89,7 @@ labels_data report None = null
 labels_data report (Some verdicts) = list_data (said_items report verdicts)
 
 -- a finding; its line and column are those of its start
-abbrev pub finding_data : FileReport → Finding → Data
+abbrev pub finding_data : FileReport → ReportedFinding → Data
 finding_data file finding = object
     (member (codes "check") (string finding.check.now)
     (member (codes "column") (count_data (column_at file.source finding.span.start))

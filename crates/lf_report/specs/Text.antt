@@ -14,7 +14,7 @@ use Rattle.lf_report.specs.Numbers.{numbered, rules_of}
 use Rattle.lf_report.specs.Places.{place, place_in_rule}
 use Rattle.lf_report.specs.Shown.{shown}
 use Rattle.lf_report.specs.declared.report.FileReport.{FileReport}
-use Rattle.lf_report.specs.declared.report.Finding.{Finding}
+use Rattle.lf_report.specs.declared.report.ReportedFinding.{ReportedFinding}
 use Rattle.lf_report.specs.declared.report.Refused.{Refused}
 use Rattle.lf_report.specs.declared.report.Report.{Report}
 use Rattle.lf_report.specs.declared.report.RuleReport.{RuleReport}
@@ -61,7 +61,7 @@ severity_name Problem = codes "problem"
 severity_name Note = codes "note"
 
 -- `FILE:LINE:COLUMN: SEVERITY [CHECK] TEXT`, at the start of what the finding is about
-abbrev pub finding_line : FileReport → Finding → Bytes
+abbrev pub finding_line : FileReport → ReportedFinding → Bytes
 finding_line file finding = place shown file finding.span.start ++ codes ": " ++ severity_name finding.severity ++ codes " [" ++ finding.check.now ++ codes "] " ++ shown finding.text
 
 -- what is told of a rule: the verdicts on its labels, and then a line for each finding

@@ -3,3 +3,4 @@ pub mod Lookups
 pub mod Pieces
 pub mod LineIndex
 pub mod Totals
+pub mod PlainNames

@@ -5,7 +5,7 @@ ghost use Rattle.lf_report.specs.Numbers.{labels_of};
 ghost use Rattle.lf_report.specs.Text.{severity_name};
 ghost use Rattle.lf_report.specs.views.Totals.{AreTotals, IsWith, is_of};
 
-use crate::{Finding, Report, RuleReport, Severity};
+use crate::{Report, ReportedFinding, RuleReport, Severity};
 use lf_ast::{RuleVerdicts, Verdict};
 use lf_base::Memory;
 use lf_base::counts::sum;
@@ -125,7 +125,7 @@ impl Totals {
 }
 
 /// How many findings are problems.
-fn problems_in(findings: &[Finding]) -> usize
+fn problems_in(findings: &[ReportedFinding]) -> usize
     ensures { result ≡ count_by is_problem findings.now }
 {
     findings
@@ -135,7 +135,7 @@ fn problems_in(findings: &[Finding]) -> usize
 }
 
 /// How many findings are notes.
-fn notes_in(findings: &[Finding]) -> usize
+fn notes_in(findings: &[ReportedFinding]) -> usize
     ensures { result ≡ count_by is_note findings.now }
 {
     findings

@@ -11,5 +11,5 @@ mod text;
 
 pub use json::json_of;
 pub use line_index::{Position, place_at, position_from};
-pub use report::{FileReport, Finding, Refused, Report, RuleReport, Severity};
+pub use report::{FileReport, Refused, Report, ReportedFinding, RuleReport, Severity};
 pub use text::text_of;

@@ -11,7 +11,7 @@ use lf_base::{Memory, Text};
 use std::alloc::Global;
 
 /// How many bytes stand between two marks of a file.
-const STRIDE: usize = 256;
+const STRIDE: usize = 64;
 
 /// A byte offset of a file, with its line and its column, both counted from 1 and the column in bytes.
 #[derive(Clone, Copy, PartialEq, Eq, Debug)]

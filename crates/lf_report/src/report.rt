@@ -51,7 +51,7 @@ pub struct RuleReport {
     /// The rule has no sample in any run.
     pub empty: bool,
     /// What the checks find, in the order of the report.
-    pub findings: Seq<Finding>,
+    pub findings: Seq<ReportedFinding>,
 }
 
 /// How grave a finding is.
@@ -65,7 +65,7 @@ pub enum Severity {
 
 /// What a check found of a rule.
 #[derive(Drop)]
-pub struct Finding {
+pub struct ReportedFinding {
     /// The name of the check, such as `expr/empty`.
     pub check: &'static str,
     pub severity: Severity,

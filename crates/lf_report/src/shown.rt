@@ -2,7 +2,9 @@
 ghost use Rattle.std.specs.Prelude.{◌≡◌, ◌<◌, ◌/◌, ◌%◌, false, [], ◌∷◌, ◌++◌, codes, map, string_bytes, IfOk, OnOk};
 ghost use Rattle.std.specs.Char.{encode_utf8};
 ghost use Rattle.std.specs.Fmt.{digit_glyph};
+ghost use Rattle.std.specs.List.{list_all};
 ghost use Rattle.lf_report.specs.Shown.{shown};
+ghost use Rattle.lf_report.specs.views.PlainNames.{is_plain};
 
 use lf_base::{Memory, Seq, Text};
 use std::alloc::Global;
@@ -11,11 +13,29 @@ use std::alloc::Global;
 pub fn shown_name(alloc: Global, name: &str) -> Result<Text, Memory>
     ensures { IfOk result (λ text. text ≡ shown name.now) }
 {
+    // Most names have no control character.
+    if is_plain(name.as_bytes()) {
+        return Text::of(alloc, name);
+    }
     let mut text = String::new(alloc);
     for c in name.chars() {
         push_shown(&mut text, c)?;
     }
     Ok(Text::from_string(text))
+}
+
+/// Whether a report shows each of these bytes as it is.
+fn is_plain(name: &[u8]) -> bool
+    ensures { result ≡ list_all is_plain name.now }
+{
+    name.iter().all(|byte| is_plain_byte(*byte))
+}
+
+/// Whether a byte is no control character.
+fn is_plain_byte(byte: u8) -> bool
+    ensures { result ≡ is_plain byte }
+{
+    byte >= 32 && byte != 127
 }
 
 /// Appends a character as a report shows it.

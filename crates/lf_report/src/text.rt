@@ -17,7 +17,7 @@ use crate::counting::Totals;
 use crate::line_index::LineIndex;
 use crate::places::{Lookup, Naming, numbers_at, place_in};
 use crate::shown::{shown_name, shown_names};
-use crate::{Finding, Report, RuleReport};
+use crate::{Report, ReportedFinding, RuleReport};
 use labels::push_labels;
 use lf_ast::RuleVerdicts;
 use lf_base::{Memory, Text};
@@ -223,7 +223,7 @@ fn push_findings(
     report: &Report,
     indexes: &[LineIndex],
     file: usize,
-    findings: &[Finding],
+    findings: &[ReportedFinding],
 ) -> Result<(), Memory>
     requires file { file < length report.now.files }
     requires indexes { AreIndexed report.now.files indexes.now }
@@ -242,7 +242,7 @@ fn push_finding(
     report: &Report,
     indexes: &[LineIndex],
     file: usize,
-    finding: &Finding,
+    finding: &ReportedFinding,
 ) -> Result<(), Memory>
     requires file { file < length report.now.files }
     requires indexes { AreIndexed report.now.files indexes.now }

@@ -3,3 +3,5 @@
 
 #[cfg(test)]
 mod rounds;
+#[cfg(test)]
+mod rows;

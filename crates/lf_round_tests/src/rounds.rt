@@ -17,15 +17,15 @@ use std::test::Fail;
 use std::thread::Threads;
 
 /// Two rules that read one another: one sums the other by a label, and the other has what the first has, or the samples of a metric.
-const READ_ONE_ANOTHER: &str =
+pub(crate) const READ_ONE_ANOTHER: &str =
     "groups:\n- name: g\n  rules:\n  - record: a:x\n    expr: sum by (job) (b:x)\n  - record: b:x\n    expr: a:x or foo\n";
 
 /// Two rules of one name: one sums its own samples by a label, and the other a metric by two.
-const OF_ONE_NAME: &str =
+pub(crate) const OF_ONE_NAME: &str =
     "groups:\n- name: g\n  rules:\n  - record: a:t\n    expr: sum by (job) (a:t)\n  - record: a:t\n    expr: sum by (job, env) (x)\n";
 
 /// The universe of rules, which covers them.
-fn universe_of(alloc: Global, rules: &Seq<Rule>) -> Result<Universe, ClassError>
+pub(crate) fn universe_of(alloc: Global, rules: &Seq<Rule>) -> Result<Universe, ClassError>
     ensures { IfOk result (λ universe. CoversRules universe (rule_trees rules.now)) }
 {
     let universe = Universe::build(alloc, rules)?;

@@ -1,4 +1,5 @@
 pub mod Allowed
+pub mod AtHand
 pub mod Bits
 pub mod Closing
 pub mod DueRules

@@ -1,11 +1,12 @@
 -- Words that are loaded one after the other.
-use Rattle.std.proofs.Common.{◌≡◌, ◌≢◌, ℕ, suc, ◌+◌, ◌-◌, ◌*◌, ◌<◌, ◌≤◌, List, [], ◌∷◌, ◌++◌, length, get_or, set, take, drop, inl, inr, sym, ◌∙◌, ap, arith, get_or-set_same, get_or-set_other, length-append, length-drop}
+use Rattle.std.proofs.Common.{◌≡◌, ◌≢◌, ℕ, suc, ◌+◌, ◌-◌, ◌*◌, ◌<◌, ◌≤◌, List, [], ◌∷◌, ◌++◌, length, get_or, set, take, drop, inl, inr, sym, ◌∙◌, ap, arith, get_or-set_same, get_or-set_other, length-append, length-drop, length-set}
 use Rattle.std.proofs.Math.Nat.{add-mul, suc-mul}
 use Rattle.std.proofs.Math.Seq.{get_or-append_seam}
 use Rattle.std.proofs.lemmas.Bool.{cases_eq}
-use Rattle.std.proofs.lemmas.List.{ext_get_or, get_or_append_left, length-take-le}
+use Rattle.std.proofs.lemmas.List.{ext_get_or, get_or-take, get_or_append_left, length-take-le}
 use Rattle.std.specs.List.{sum}
 use Rattle.std.proofs.lemmas.List.Sums.{sum_by-cons, sum_by_push}
+use Rattle.lf_graph.proofs.Prefixes.{prefix_next}
 use Rattle.lf_rounds.specs.Facts.{RoundFacts, task}
 use Rattle.lf_rounds.specs.Rounds.{noted_view}
 use Rattle.lf_rounds.specs.Sums.{sum_of_loads}
@@ -14,6 +15,19 @@ use Rattle.lf_rounds.specs.declared.rule.Load.{Load}
 use Rattle.lf_rounds.specs.declared.rule.RoundView.{RoundView}
 use Rattle.lf_rounds.specs.views.Working.{ChangedAt, IsAsBefore}
 use Rattle.lf_rounds.proofs.Environments.{word_of_part}
+
+-- one word more of a list is written
+module _ (items : List ℕ) (k w : ℕ) (h : k < length items) where
+  kept_before : take k (set items k w) ≡ take k items
+  kept_before =
+      let long = length-set items k w in
+      let a : length (take k (set items k w)) ≡ k = length-take-le k (set items k w) (omega (arith, h, long)) in
+      let b : length (take k items) ≡ k = length-take-le k items (omega (arith, h)) in
+      ext_get_or 0 (take k (set items k w)) (take k items) (a ∙ sym b)
+      (λ j l. let less : j < k = omega (arith, l, a) in get_or-take k (set items k w) j 0 less ∙ get_or-set_other items k j w 0 (λ e. absurd (omega (arith, e, less))) ∙ sym (get_or-take k items j 0 less))
+
+  pub written_more : take (k + 1) (set items k w) ≡ take k items ++ w ∷ []
+  written_more = prefix_next (set items k w) k 0 w (omega (arith, h, length-set items k w)) (sym (get_or-set_same items k w 0 h)) ∙ ap (λ l. l ++ w ∷ []) kept_before
 
 -- the words of a row lie among all
 pub part_within : (number count wide : ℕ) → number < count → number * wide + wide ≤ count * wide

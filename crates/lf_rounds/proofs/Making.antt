@@ -1,7 +1,6 @@
 -- A round that is made.
 use Rattle.std.proofs.Common.{◌≡◌, ℕ, ◌+◌, ◌*◌, ◌<◌, ◌≤◌, ◌^◌, List, [], ◌∷◌, length, sym, ◌∙◌, ap, subst}
 use Rattle.atomic_table.specs.Seated.{TableId}
-use Rattle.lf_ast.specs.Labels.{Bytes}
 use Rattle.lf_ast.specs.Rules.{rule_trees}
 use Rattle.lf_ast.specs.declared.rule.Rule.{Rule}
 use Rattle.lf_classes.specs.RowWords.{word_count}
@@ -11,7 +10,7 @@ use Rattle.lf_rounds.specs.Rounds.{HoldsWords, opening_view, task_of}
 use Rattle.lf_rounds.specs.Tasks.{AreReads, AreRecording, IsBelowLeast, IsTask, OthersHold}
 use Rattle.lf_rounds.specs.declared.rule.About.{About}
 use Rattle.lf_rounds.specs.views.Kept.{IsKept}
-use Rattle.lf_rounds.specs.views.Noting.{IsKnown}
+use Rattle.lf_rounds.specs.views.Noting.{ArePlaced, IsKnown}
 use Rattle.lf_rounds.proofs.Events.{begins}
 
 module _ (k : About) (u : Listing) (rules : List Rule) (reads : List (List ℕ)) (numbers words : List ℕ) (eu : k.universe.value ≡ u) (er : k.rules.value ≡ rules) (ed : k.reads.value ≡ reads) (ep : k.pieces.value ≡ numbers) (es : k.start.value ≡ words) where
@@ -31,7 +30,7 @@ module _ (k : About) (u : Listing) (rules : List Rule) (reads : List (List ℕ))
         words = ap length es ∙ count ∙ (λ i. length (recorded_names (rule_trees (sym er i))) * word_count (sym eu i));
       }
 
-  pub kept_over : (table : TableId) (recorded : List Bytes) (wide : ℕ) → IsListing u → CoversRules u (rule_trees rules) → IsKnown (rule_trees rules) recorded reads → AreRecording (rule_trees rules) numbers → OthersHold u (rule_trees rules) numbers words
+  pub kept_over : (table : TableId) (recorded : List ℕ) (wide : ℕ) → IsListing u → CoversRules u (rule_trees rules) → IsKnown (rule_trees rules) recorded reads → AreRecording (rule_trees rules) numbers → OthersHold u (rule_trees rules) numbers words
       → length words ≡ length (recorded_names (rule_trees rules)) * word_count u
       → k.counts.pieces ≡ length numbers → length numbers < 2 ^ 32 → k.counts.seats ≤ 64 → table.words ≡ length words + 1 → length words + 1 < 2 ^ 64 → table.slots ≡ 0
       → wide ≡ word_count u → IsKept k table recorded reads numbers words wide
@@ -46,7 +45,7 @@ module _ (k : About) (u : Listing) (rules : List Rule) (reads : List (List ℕ))
     words = wordy;
     fits = fits;
     slots = slots;
-    names = known.names ∙ ap (λ rs. recorded_names (rule_trees rs)) (sym er);
+    names = (let N : List Rule → Type 0 = λ rs. ArePlaced (recorded_names (rule_trees rs)) (rule_trees rs) recorded in subst N (sym er) known.names);
     width = width ∙ ap word_count (sym eu);
   }
 

@@ -23,8 +23,9 @@ use Rattle.lf_semantics.specs.ClassRows.{Sets}
 use Rattle.lf_semantics.specs.Environments.{EnvironmentLeq, IsEnvironmentOf, IsLeast, IsPostFixedPoint, IsRow, Leq, names_recorded, recorded_row}
 use Rattle.lf_semantics.specs.Listing.{place}
 use Rattle.lf_semantics.specs.RowTable.{Environment}
-use Rattle.lf_rounds.specs.Tasks.{ArePieces, AreReadBy, AreRecording, HoldRules, HoldsRule, IsBelowLeast, IsTask, Raised, Task, is_recording, names, place_of, read_by, rule_of, stands_for, stored_word, width}
+use Rattle.lf_rounds.specs.Tasks.{AreTaskPieces, AreReadBy, AreRecording, HoldRules, WordsHoldRule, IsBelowLeast, IsTask, Raised, Task, is_recording, names, place_of, read_by, rule_of, stands_for, stored_word, width}
 use Rattle.lf_rounds.specs.Words.{environment_of, words_of}
+use Rattle.lf_rounds.specs.views.Noting.{ArePlaced}
 use Rattle.lf_rounds.proofs.Environments.{environment_leq, named_row, named_word, some_label, word_of_part, words_of_rules, words_stand}
 
 -- the name of a recording rule has a place
@@ -50,6 +51,12 @@ module _ (t : Task) (is : IsTask t) where
       let f = rule_found t.rules (slice_get t.pieces p) r e in
       let P : ℕ → Type 0 = λ number. AreReadBy t.rules r (get_or t.reads number []) in
       subst P (sym (get_or_from_slice_get t.pieces p f.0 0 f.1)) (is.reads.each f.0 r f.2 (piece_is p r e).0)
+
+  -- the number of the name that it records
+  pub placed_piece : (p : ℕ) (r : RuleTree) (numbers : List ℕ) → ArePlaced (names t) t.rules numbers → rule_of t p ≡ Some r → get_or numbers (get_or t.pieces p 0) 0 ≡ place (names t) r.name
+  placed_piece p r numbers placed e =
+      let f = rule_found t.rules (slice_get t.pieces p) r e in
+      ap (λ number. get_or numbers number 0) (get_or_from_slice_get t.pieces p f.0 0 f.1) ∙ placed.each f.0 r f.2 (piece_is p r e).0
 
   -- greater environments
 
@@ -93,16 +100,16 @@ module _ (t : Task) (is : IsTask t) where
       let P : Option RuleTree → Type 0 = λ o. WordLeq (option_map_or (λ x. row_word (recorded_row t.universe (stands_for t t.start) x) j) o 0) (get_or words (option_map_or (λ x. place (names t) x.name * width t + j) o 0) 0) in
       let piece : slice_get t.pieces m.0 ≡ Some f.0 = slice_get-get_or t.pieces m.0 f.0 m.1 ∙ ap Some m.2 in
       subst P (ap (option_and_then (λ number. slice_get t.rules number)) piece ∙ f.2) (raised m.0 m.1 j h))
-      (λ (held : HoldsRule t.universe t.rules t.start t.start r). word_trans stored (get_or t.start at 0) (get_or words at 0) (held j h) (up.at at))
+      (λ (held : WordsHoldRule t.universe t.rules t.start t.start r). word_trans stored (get_or t.start at 0) (get_or words at 0) (held j h) (up.at at))
       (is.others f.0 r f.2 e)
 
 -- where all recording rules are pieces, no other one is left
-pub pieces_recording : (rules : List RuleTree) (pieces : List ℕ) → ArePieces rules pieces → AreRecording rules pieces
+pub pieces_recording : (rules : List RuleTree) (pieces : List ℕ) → AreTaskPieces rules pieces → AreRecording rules pieces
 pieces_recording rules pieces are number c =
     let P : List ℕ → Type 0 = λ xs. Contains xs number in
     (of_filter (is_recording rules) are.0 number (subst P are.2 c)).1
 
-pub pieces_all : (rules : List RuleTree) (pieces : List ℕ) → ArePieces rules pieces → (number : ℕ) (r : RuleTree) → slice_get rules number ≡ Some r → r.alert ≡ false → Contains pieces number
+pub pieces_all : (rules : List RuleTree) (pieces : List ℕ) → AreTaskPieces rules pieces → (number : ℕ) (r : RuleTree) → slice_get rules number ≡ Some r → r.alert ≡ false → Contains pieces number
 pieces_all rules pieces are number r at e =
     let P : List ℕ → Type 0 = λ xs. Contains xs number in
     let passes : is_recording rules number ≡ true = ap (λ (o : Option RuleTree). option_map_or (λ (x : RuleTree). not x.alert) o false) at ∙ ap not e in

@@ -1,56 +1,108 @@
--- Lists of the numbers that rules read.
-use Rattle.std.proofs.Common.{◌≡◌, ◌↔◌, ℕ, ◌+◌, ◌<◌, false, List, [], ◌∷◌, ◌++◌, length, get_or, Some, inl, inr, sym, ◌∙◌, ap, subst, arith}
+-- Lists of the numbers that rules record and read.
+use Rattle.std.proofs.Common.{◌≡◌, ℕ, ◌+◌, ◌<◌, ◌≤◌, Bool, true, false, cond, nat_lt, List, [], ◌∷◌, ◌++◌, length, get_or, Option, Some, None, inl, inr, refl, sym, ◌∙◌, ap, subst, arith}
 use Rattle.std.specs.Prelude.{slice_get}
 use Rattle.std.specs.List.{Contains}
 use Rattle.std.proofs.Math.Seq.{get_or-append_seam}
-use Rattle.std.proofs.lemmas.Bool.{cases_lt}
-use Rattle.std.proofs.lemmas.List.{get_or_append_left, length-map}
-use Rattle.std.proofs.lemmas.Option.{slice_get_within}
+use Rattle.std.proofs.lemmas.Bool.{cases_lt, lt-ltb, ltb-true}
+use Rattle.std.proofs.lemmas.List.{get_or-map, get_or_append_left, length-map}
+use Rattle.std.proofs.lemmas.Option.{get_or_from_slice_get, slice_get_within}
 use Rattle.lf_ast.specs.Labels.{Bytes}
 use Rattle.lf_ast.specs.Rules.{RuleTree}
-use Rattle.lf_ast.specs.Tree.{Tree}
-use Rattle.lf_laws.specs.Ascending.{AreAscending}
+use Rattle.lf_deps.proofs.Ascending.{in_range, of_range}
+use Rattle.lf_deps.specs.Reading.{selectors}
+use Rattle.lf_deps.specs.views.Sources.{IsSourcesOf, Sources}
 use Rattle.lf_flow.specs.Reads.{ReadsNumber, names_of}
+use Rattle.lf_laws.proofs.Members.{here, in_flat_map, none_in, of_flat_map, only_one}
 use Rattle.lf_laws.proofs.Slices.{one_at}
 use Rattle.lf_semantics.specs.ClassRows.{Sets}
 use Rattle.lf_semantics.specs.Environments.{recorded_names}
 use Rattle.lf_semantics.specs.Listing.{place}
 use Rattle.lf_semantics.specs.RowTable.{Environment}
 use Rattle.lf_rounds.specs.Tasks.{AreReadBy, AreReads}
+use Rattle.lf_rounds.specs.views.Reading.{AreEachSelected, AreSelected, numbers_selected}
 
--- what an expression reads depends on the names alone
-reads_by_names : (env other : Environment) (e : Tree) (k : ℕ) → names_of env ≡ names_of other → ReadsNumber env e k → ReadsNumber other e k
-reads_by_names env other e k same r = (
-  omega (arith, r.0, ap length same, length-map env (λ (entry : Bytes × Sets). entry.0), length-map other (λ (entry : Bytes × Sets). entry.0)),
-  elim r.1 [
-    | inl n ↦ inl (n.0, n.1, ap (λ names. place names n.0) (sym same) ∙ n.2)
-    | inr n ↦ inr n
-  ],
-)
-
-pub are_read : (rules : List RuleTree) (r : RuleTree) (env : Environment) (numbers : List ℕ) → names_of env ≡ recorded_names rules → AreAscending numbers → ((k : ℕ) → Contains numbers k ↔ ReadsNumber env r.expr k) → AreReadBy rules r numbers
-are_read rules r env numbers named ascend listed = record {
-  ascend = ascend;
-  within = λ k c. omega (arith, ((listed k).0 c).0, ap length named, length-map env (λ (entry : Bytes × Sets). entry.0));
-  all = λ other same k reads. (listed k).1 (reads_by_names other env r.expr k (same ∙ sym named) reads);
-}
-
--- the numbers of one rule more
-module _ (rules : List RuleTree) (all : List (List ℕ)) (k : ℕ) (numbers : List ℕ) (rule : RuleTree) (len : length all ≡ k) (there : slice_get rules k ≡ Some rule) (read : rule.alert ≡ false → AreReadBy rules rule numbers)
-    (before : (number : ℕ) (r : RuleTree) → number < k → slice_get rules number ≡ Some r → r.alert ≡ false → AreReadBy rules r (get_or all number [])) where
-  pub each_more : (number : ℕ) (r : RuleTree) → number < k + 1 → slice_get rules number ≡ Some r → r.alert ≡ false → AreReadBy rules r (get_or (all ++ numbers ∷ []) number [])
-  each_more number r less at e =
-      let P : List ℕ → Type 0 = λ l. AreReadBy rules r l in
+-- the number of the name of one rule more
+module _ (rules : List RuleTree) (recorded : List Bytes) (all : List ℕ) (k n : ℕ) (rule : RuleTree) (len : length all ≡ k) (there : slice_get rules k ≡ Some rule) (placed : rule.alert ≡ false → n ≡ place recorded rule.name)
+    (before : (number : ℕ) (r : RuleTree) → number < k → slice_get rules number ≡ Some r → r.alert ≡ false → get_or all number 0 ≡ place recorded r.name) where
+  pub placed_more : (number : ℕ) (r : RuleTree) → number < k + 1 → slice_get rules number ≡ Some r → r.alert ≡ false → get_or (all ++ n ∷ []) number 0 ≡ place recorded r.name
+  placed_more number r less at e =
       elim (cases_lt number k) [
-        | inl b ↦ subst P (sym (get_or_append_left all (numbers ∷ []) [] number (omega (arith, b, len)))) (before number r b at e)
-        | inr b ↦ (let here : number ≡ length all = omega (arith, b, less, len) in
-            let same : rule ≡ r = one_at rules k rule r there (ap (slice_get rules) (sym (here ∙ len)) ∙ at) in
-            let Q : RuleTree → Type 0 = λ x. (x.alert ≡ false → AreReadBy rules x numbers) in
-            subst P (sym (ap (λ j. get_or (all ++ numbers ∷ []) j []) here ∙ get_or-append_seam all numbers [] [])) (subst Q same read e))
+        | inl b ↦ get_or_append_left all (n ∷ []) 0 number (omega (arith, b, len)) ∙ before number r b at e
+        | inr b ↦ (let end : number ≡ length all = omega (arith, b, less, len) in
+            let same : rule ≡ r = one_at rules k rule r there (ap (slice_get rules) (sym (end ∙ len)) ∙ at) in
+            let Q : RuleTree → Type 0 = λ x. (x.alert ≡ false → n ≡ place recorded x.name) in
+            ap (λ j. get_or (all ++ n ∷ []) j 0) end ∙ get_or-append_seam all n [] 0 ∙ subst Q same placed e)
       ]
 
-pub all_read_by : (rules : List RuleTree) (all : List (List ℕ)) (k : ℕ) → length all ≡ k → k ≡ length rules → ((number : ℕ) (r : RuleTree) → number < k → slice_get rules number ≡ Some r → r.alert ≡ false → AreReadBy rules r (get_or all number [])) → AreReads rules all
-all_read_by rules all k len end each = record {
-  count = len ∙ end;
-  each = λ number r at e. each number r (omega (arith, slice_get_within rules number r at, end)) at e;
+-- what a selector selects
+
+below : (n k : ℕ) (b : Bool) → nat_lt k n ≡ b → (j : ℕ) → Contains (cond b (k ∷ []) []) j → (k < n) × (k ≡ j)
+below n k true e j c = (ltb-true k n e, only_one k j c)
+below n k false e j c = absurd (none_in j c)
+
+put_below : (n k : ℕ) → k < n → Contains (cond (nat_lt k n) (k ∷ []) []) k
+put_below n k h = let P : Bool → Type 0 = λ b. Contains (cond b (k ∷ []) []) k in subst P (sym (lt-ltb k n h)) (here k [])
+
+pub one_number : (names : List Bytes) (name : Bytes) (n : ℕ) → n ≡ place names name → place names name < length names → n ∷ [] ≡ numbers_selected names (Some name)
+one_number names name n e h = ap (λ k. k ∷ []) e ∙ ap (λ b. cond b (place names name ∷ []) []) (sym (lt-ltb (place names name) (length names) h))
+
+pub no_number : (names : List Bytes) (name : Bytes) → length names ≤ place names name → [] ≡ numbers_selected names (Some name)
+no_number names name h = none (nat_lt (place names name) (length names)) refl
+  where
+    none : (b : Bool) → nat_lt (place names name) (length names) ≡ b → [] ≡ cond b (place names name ∷ []) []
+    none true e = absurd (omega (arith, h, ltb-true (place names name) (length names) e))
+    none false e = refl
+
+selected_within : (names : List Bytes) (o : Option Bytes) (k : ℕ) → Contains (numbers_selected names o) k → k < length names
+selected_within names None k c = of_range (length names) k c
+selected_within names (Some name) k c = let w = below (length names) (place names name) (nat_lt (place names name) (length names)) refl k c in omega (arith, w.0, w.1)
+
+-- what a rule reads is what its selectors select
+pub are_read : (rules : List RuleTree) (r : RuleTree) (numbers : List ℕ) → AreSelected (recorded_names rules) (selectors r.expr) numbers → AreReadBy rules r numbers
+are_read rules r numbers is = record {
+  ascend = is.ascend;
+  within = λ k c. (let s = of_flat_map (numbers_selected (recorded_names rules)) (selectors r.expr) k ((is.same k).0 c) in selected_within (recorded_names rules) s.0 k s.2);
+  all = every;
 }
+  where
+    every : (env : Environment) → names_of env ≡ recorded_names rules → (k : ℕ) → ReadsNumber env r.expr k → Contains numbers k
+    every env same k reads =
+        let long = sym (length-map env (λ (entry : Bytes × Sets). entry.0)) ∙ ap length same in
+        let h : k < length (recorded_names rules) = omega (arith, reads.0, long) in
+        (is.same k).1 (elim reads.1 [
+          | inl n ↦ (let at : place (recorded_names rules) n.0 ≡ k = ap (λ ns. place ns n.0) (sym same) ∙ n.2 in
+              let P : ℕ → Type 0 = λ j. Contains (numbers_selected (recorded_names rules) (Some n.0)) j in
+              in_flat_map (numbers_selected (recorded_names rules)) (selectors r.expr) (Some n.0) k n.1 (subst P at (put_below (length (recorded_names rules)) (place (recorded_names rules) n.0) (omega (arith, h, at)))))
+          | inr n ↦ in_flat_map (numbers_selected (recorded_names rules)) (selectors r.expr) None k n (in_range (length (recorded_names rules)) k h)
+        ])
+
+-- the numbers of one list of selectors more
+module _ (names : List Bytes) (selected : List (List (Option Bytes))) (all : List (List ℕ)) (k : ℕ) (numbers : List ℕ) (len : length all ≡ k) (is : AreSelected names (get_or selected k []) numbers)
+    (before : (number : ℕ) → number < k → AreSelected names (get_or selected number []) (get_or all number [])) where
+  pub selected_more : (number : ℕ) → number < k + 1 → AreSelected names (get_or selected number []) (get_or (all ++ numbers ∷ []) number [])
+  selected_more number less =
+      let P : List ℕ → Type 0 = λ l. AreSelected names (get_or selected number []) l in
+      elim (cases_lt number k) [
+        | inl b ↦ subst P (sym (get_or_append_left all (numbers ∷ []) [] number (omega (arith, b, len)))) (before number b)
+        | inr b ↦ (let end : number ≡ length all = omega (arith, b, less, len) in
+            let Q : ℕ → Type 0 = λ j. AreSelected names (get_or selected j []) (get_or (all ++ numbers ∷ []) j []) in
+            let R : List ℕ → Type 0 = λ l. AreSelected names (get_or selected (length all) []) l in
+            let S : ℕ → Type 0 = λ j. AreSelected names (get_or selected j []) numbers in
+            subst Q (sym end) (subst R (sym (get_or-append_seam all numbers [] [])) (subst S (sym len) is)))
+      ]
+
+pub all_read_by : (rules : List RuleTree) (s : Sources) (all : List (List ℕ)) → IsSourcesOf rules s → AreEachSelected s.names s.selected all → AreReads rules all
+all_read_by rules s all is has = record {
+  count = has.count ∙ long;
+  each = λ number r at e.
+      (let h : number < length rules = slice_get_within rules number r at in
+      let found : get_or s.selected number [] ≡ selectors r.expr = ap (λ l. get_or l number []) is.selected ∙ get_or-map of rules number r [] h ∙ ap of (get_or_from_slice_get rules number r r at) in
+      let P : List Bytes × List (Option Bytes) → Type 0 = λ x. AreSelected x.0 x.1 (get_or all number []) in
+      are_read rules r (get_or all number []) (subst P (λ i. (is.names i, found i)) (has.each number (omega (arith, h, long)))));
+}
+  where
+    of : RuleTree → List (Option Bytes)
+    of r = selectors r.expr
+
+    long : length s.selected ≡ length rules
+    long = ap length is.selected ∙ length-map rules of

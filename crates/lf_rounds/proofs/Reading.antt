@@ -16,7 +16,7 @@ use Rattle.lf_laws.proofs.Members.{each_member, same_sums}
 use Rattle.lf_laws.specs.Ascending.{AreAscending}
 use Rattle.lf_flow.specs.Reads.{name_at, names_of, rows_of, with_row}
 use Rattle.lf_semantics.specs.ClassRows.{Sets}
-use Rattle.lf_semantics.specs.Environments.{IsEnvironmentOf, IsRow}
+use Rattle.lf_semantics.specs.Environments.{IsEnvironment, IsEnvironmentOf, IsRow}
 use Rattle.lf_semantics.specs.Listing.{Listing, class_of, label_of, other_class}
 use Rattle.lf_semantics.specs.RowTable.{Environment}
 use Rattle.lf_rounds.specs.Sums.{sum_of_row, sum_of_rows}
@@ -55,18 +55,18 @@ module _ (env : Environment) (k : ℕ) (row : Sets) (h : k < length env) where
   pub other_row : (m : ℕ) → m ≢ k → get_or (rows_of (with_row k row env)) m [] ≡ get_or (rows_of env) m []
   other_row m n = ap (λ rows. get_or rows m []) rows_put ∙ get_or-set_other (rows_of env) k m row [] n
 
-  pub environment_put : (u : Listing) (rules : List RuleTree) → IsEnvironmentOf u rules env → IsRow u row → IsEnvironmentOf u rules (with_row k row env)
-  environment_put u rules of is =
+  pub rows_put_are : (u : Listing) → IsEnvironment u env → IsRow u row → IsEnvironment u (with_row k row env)
+  rows_put_are u of is =
       let IsClass : Bytes → Type 0 = λ name. class_of u (label_of u metric) name < other_class u (label_of u metric) in
       let d : Bytes × Sets = (name_at env k, row) in
-      let named : IsClass (name_at env k) = subst IsClass (sym (get_or-map (λ (entry : Bytes × Sets). entry.0) env k d [] h)) (each_member (λ (entry : Bytes × Sets). IsClass entry.0) env (get_or env k d) of.environment.classes (Contains-get_or env k d h)) in
+      let named : IsClass (name_at env k) = subst IsClass (sym (get_or-map (λ (entry : Bytes × Sets). entry.0) env k d [] h)) (each_member (λ (entry : Bytes × Sets). IsClass entry.0) env (get_or env k d) of.classes (Contains-get_or env k d h)) in
       record {
-        environment = record {
-          rows = all_set (λ (entry : Bytes × Sets). IsRow u entry.1) env k (name_at env k, row) of.environment.rows is;
-          classes = all_set (λ (entry : Bytes × Sets). IsClass entry.0) env k (name_at env k, row) of.environment.classes named;
-        };
-        names = names_put ∙ of.names;
+        rows = all_set (λ (entry : Bytes × Sets). IsRow u entry.1) env k (name_at env k, row) of.rows is;
+        classes = all_set (λ (entry : Bytes × Sets). IsClass entry.0) env k (name_at env k, row) of.classes named;
       }
+
+  pub environment_put : (u : Listing) (rules : List RuleTree) → IsEnvironmentOf u rules env → IsRow u row → IsEnvironmentOf u rules (with_row k row env)
+  environment_put u rules of is = record { environment = rows_put_are u of.environment is; names = names_put ∙ of.names }
 
 -- words of which only those of one row changed
 

@@ -13,7 +13,7 @@ use Rattle.lf_semantics.proofs.Members.{of_filter}
 use Rattle.lf_semantics.specs.Environments.{CoversRules, IsLeast, recorded_names}
 use Rattle.lf_semantics.specs.Listing.{IsListing, Listing}
 use Rattle.lf_rounds.specs.Facts.{IsOverDue, RoundFacts, task}
-use Rattle.lf_rounds.specs.Tasks.{ArePieces, AreReads, AreRecording, HoldRules, HoldsRule, IsBelowLeast, OthersHold, is_recording}
+use Rattle.lf_rounds.specs.Tasks.{AreTaskPieces, AreReads, AreRecording, HoldRules, WordsHoldRule, IsBelowLeast, OthersHold, is_recording}
 use Rattle.lf_rounds.specs.Words.{AreWords, environment_of}
 use Rattle.lf_rounds.specs.declared.between.Standing.{Standing}
 use Rattle.lf_rounds.specs.declared.round.closing.Settled.{Settled}
@@ -34,13 +34,13 @@ pub kept_on : (u : Listing) (p : IsListing u) (rules : List RuleTree) (reads : L
 kept_on u p rules reads words now sums len up old k r s there e = remembered_on u p rules r (get_or reads k []) s words now len up (old k r s there e)
 
 -- recording rules are rules
-pub pieces_within : (rules : List RuleTree) (pieces : List ℕ) → ArePieces rules pieces → (k : ℕ) → Contains pieces k → k < length rules
+pub pieces_within : (rules : List RuleTree) (pieces : List ℕ) → AreTaskPieces rules pieces → (k : ℕ) → Contains pieces k → k < length rules
 pieces_within rules pieces are k c =
     let P : List ℕ → Type 0 = λ xs. Contains xs k in
     ordered_below rules are.0 are.1 k (of_filter (is_recording rules) are.0 k (subst P are.2 c)).0
 
 -- each recording rule that isn't due is held
-pub current_held : (u : Listing) (p : IsListing u) (rules : List RuleTree) (reads : List (List ℕ)) (words all due : List ℕ) (sums : List (Option ℕ)) → AreReads rules reads → ArePieces rules all → AreRemembered u rules reads words sums
+pub current_held : (u : Listing) (p : IsListing u) (rules : List RuleTree) (reads : List (List ℕ)) (words all due : List ℕ) (sums : List (Option ℕ)) → AreReads rules reads → AreTaskPieces rules all → AreRemembered u rules reads words sums
     → ((k : ℕ) → Contains all k → Contains due k ⊎ IsCurrent (word_count u) words reads sums k) → OthersHold u rules due words
 current_held u p rules reads words all due sums read are kept current k r at e = ⊎_elim
     (λ (d : Contains due k). inl d)
@@ -52,7 +52,7 @@ current_held u p rules reads words all due sums read are kept current k r at e =
 pub none_due : (u : Listing) (rules : List RuleTree) (due words : List ℕ) → OthersHold u rules due words → length due ≡ 0 → HoldRules u rules words words
 none_due u rules due words others none r c e =
     let f = number_of rules r c in
-    ⊎_elim (λ (d : Contains due f.0). absurd (omega (arith, d.1, none))) (λ (h : HoldsRule u rules words words r). h) (others f.0 r f.2 e)
+    ⊎_elim (λ (d : Contains due f.0). absurd (omega (arith, d.1, none))) (λ (h : WordsHoldRule u rules words words r). h) (others f.0 r f.2 e)
 
 pub least_at_end : (u : Listing) (rules : List RuleTree) (reads : List (List ℕ)) (due words : List ℕ) → IsListing u → CoversRules u rules → AreReads rules reads → AreRecording rules due → OthersHold u rules due words → length words ≡ length (recorded_names rules) * word_count u
     → HoldRules u rules words words → IsBelowLeast u rules words → IsLeast u rules (environment_of u (recorded_names rules) words)

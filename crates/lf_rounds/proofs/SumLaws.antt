@@ -16,7 +16,7 @@ use Rattle.lf_semantics.specs.Environments.{recorded_names, recorded_row}
 use Rattle.lf_semantics.specs.Listing.{IsListing, Listing, place}
 use Rattle.lf_semantics.specs.RowTable.{row_of}
 use Rattle.lf_rounds.specs.Sums.{sum_of_row, sum_of_rows}
-use Rattle.lf_rounds.specs.Tasks.{AreReadBy, HoldsRule}
+use Rattle.lf_rounds.specs.Tasks.{AreReadBy, WordsHoldRule}
 use Rattle.lf_rounds.specs.Words.{environment_of}
 use Rattle.lf_rounds.specs.views.Noting.{IsRemembered}
 use Rattle.lf_rounds.proofs.Bits.{rest_leq}
@@ -93,7 +93,7 @@ module _ (u : Listing) (p : IsListing u) (rules : List RuleTree) (r : RuleTree) 
   }
 
   -- a rule whose rows are as they were when it was computed is held
-  pub held_now : (words : List ℕ) → AreReadBy rules r numbers → IsRemembered u rules words r numbers s → s ≡ sum_of_rows (word_count u) words numbers → HoldsRule u rules words words r
+  pub held_now : (words : List ℕ) → AreReadBy rules r numbers → IsRemembered u rules words r numbers s → s ≡ sum_of_rows (word_count u) words numbers → WordsHoldRule u rules words words r
   held_now words read m e j h =
       let ns = recorded_names rules in
       let before = environment_of u ns m.seen in

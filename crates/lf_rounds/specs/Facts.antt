@@ -4,7 +4,7 @@ use Rattle.lf_ast.specs.Rules.{rule_trees}
 use Rattle.lf_ast.specs.declared.rule.Rule.{Rule}
 use Rattle.lf_board.specs.Seats.{BoardFacts}
 use Rattle.lf_semantics.specs.Listing.{Listing}
-use Rattle.lf_rounds.specs.Tasks.{ArePieces, Task}
+use Rattle.lf_rounds.specs.Tasks.{AreTaskPieces, Task}
 
 -- A round: its board, which says which round it is and how many pieces and seats it has, and what it is over. `reads` are of each rule the numbers of the names that it reads.
 pub record RoundFacts : Type 0 where
@@ -32,7 +32,7 @@ pub record IsOver (u : Listing) (all : List Rule) (words : List ℕ) (places : �
   pub universe : round.universe ≡ u
   pub rules : round.rules ≡ all
   pub start : round.start ≡ words
-  pub pieces : ArePieces (rule_trees all) round.pieces
+  pub pieces : AreTaskPieces (rule_trees all) round.pieces
   pub count : round.board.pieces ≡ length round.pieces
   pub seats : round.board.seats ≡ places
 

@@ -63,8 +63,8 @@ HoldRules u rules words over =
     → WordLeq (row_word (recorded_row u (environment_of u (recorded_names rules) over) r) number) (slice_index words (place (recorded_names rules) r.name * word_count u + number))
 
 -- the same of one rule
-abbrev pub HoldsRule : Listing → List RuleTree → List ℕ → List ℕ → RuleTree → Type 0
-HoldsRule u rules words over r =
+abbrev pub WordsHoldRule : Listing → List RuleTree → List ℕ → List ℕ → RuleTree → Type 0
+WordsHoldRule u rules words over r =
     (number : ℕ) → number < word_count u
     → WordLeq (row_word (recorded_row u (environment_of u (recorded_names rules) over) r) number) (slice_index words (place (recorded_names rules) r.name * word_count u + number))
 
@@ -73,8 +73,8 @@ abbrev pub is_recording : List RuleTree → ℕ → Bool
 is_recording rules number = option_map_or (λ r. not r.alert) (slice_get rules number) false
 
 -- the recording rules, in the order of the rules
-abbrev pub ArePieces : List RuleTree → List ℕ → Type 0
-ArePieces rules pieces = (order : List ℕ) × IsOrder rules order × (pieces ≡ filter (is_recording rules) order)
+abbrev pub AreTaskPieces : List RuleTree → List ℕ → Type 0
+AreTaskPieces rules pieces = (order : List ℕ) × IsOrder rules order × (pieces ≡ filter (is_recording rules) order)
 
 -- These numbers of recorded names, in ascending order, are all whose rows the rule reads.
 pub record AreReadBy (rules : List RuleTree) (r : RuleTree) (numbers : List ℕ) : Type 0 where
@@ -93,7 +93,7 @@ AreRecording rules pieces = (number : ℕ) → Contains pieces number → is_rec
 
 -- each other recording rule is held by the words as they are
 abbrev pub OthersHold : Listing → List RuleTree → List ℕ → List ℕ → Type 0
-OthersHold u rules pieces words = (number : ℕ) (r : RuleTree) → slice_get rules number ≡ Some r → r.alert ≡ false → Contains pieces number ⊎ HoldsRule u rules words words r
+OthersHold u rules pieces words = (number : ℕ) (r : RuleTree) → slice_get rules number ≡ Some r → r.alert ≡ false → Contains pieces number ⊎ WordsHoldRule u rules words words r
 
 -- what rounds are over: the universe covers the rules, each recording rule is a piece or held by the words at the start, and there are words for each recorded name
 pub record IsTask (t : Task) : Type 0 where

@@ -2,6 +2,7 @@
 pub mod Ending
 pub mod Kept
 pub mod Noting
+pub mod Reading
 pub mod Rising
 pub mod Standings
 pub mod Workers

@@ -22,16 +22,20 @@ pub fn first_words(
     ensures fit { IfOk result AreWords }
     ensures below { IfOk result (IsBelowLeast universe.now (rule_trees rules.now)) }
 {
-    let words = no_bits(alloc, universe, rules)?;
+    let names = recorded_names(alloc, rules.as_slice())?;
+    let words = clear_words(alloc, universe, names.len())?;
     Ok(words)
 }
 
-/// As many clear words.
-fn no_bits(alloc: Global, universe: &Universe, rules: &Seq<Rule>) -> Result<Seq<u64>, Memory>
-    ensures { IfOk result (λ words. words ≡ replicate (length (recorded_names (rule_trees rules.now)) * word_count universe.now) 0) }
+/// Clear words for so many names.
+pub(crate) fn clear_words(
+    alloc: Global,
+    universe: &Universe,
+    names: usize,
+) -> Result<Seq<u64>, Memory>
+    ensures { IfOk result (λ words. words ≡ replicate (names * word_count universe.now) 0) }
 {
-    let names = recorded_names(alloc, rules.as_slice())?;
-    let Some(count) = names.len().checked_mul(universe.words() as usize) else {
+    let Some(count) = names.checked_mul(universe.words() as usize) else {
         return Err(Memory);
     };
     let words = vec![in alloc; 0; count]?;

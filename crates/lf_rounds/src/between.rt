@@ -1,28 +1,27 @@
 //! What rounds leave to those behind them.
 ghost use Rattle.std.specs.Prelude.{◌≡◌, ℕ, List, length, replicate, None, IfOk};
 ghost use Rattle.lf_ast.specs.Rules.{rule_trees};
-ghost use Rattle.lf_flow.specs.Reads.{names_of};
-ghost use Rattle.lf_semantics.specs.Environments.{recorded_names};
-ghost use Rattle.lf_rounds.specs.Tasks.{ArePieces, Task};
+ghost use Rattle.lf_deps.specs.views.Sources.{IsSourcesOf};
+ghost use Rattle.lf_rounds.specs.Tasks.{AreTaskPieces, Task};
 ghost use Rattle.lf_rounds.specs.views.Noting.{AreMadeBy, AreRemembered, IsMadeBy};
 ghost use Rattle.lf_rounds.specs.views.Standings.{IsSettledOf, IsStanding};
 
+use crate::beginning::clear_words;
 use crate::due::due_of;
-use crate::first_words;
-use crate::known::Known;
+use crate::known::RecordedReads;
 use crate::round::Settled;
 use crate::rule::Loaded;
 use lf_ast::Rule;
 use lf_base::{Memory, Seq};
 use lf_classes::Universe;
-use lf_flow::Env;
+use lf_deps::Sources;
 use std::alloc::Global;
 
 /// What is known of the rules, the words of all rows, of each rule the sum of the words that were loaded when it was computed last, and the rules that are due: whose row may
 /// have grown since.
 #[derive(Drop)]
 pub(crate) struct Standing {
-    pub(crate) known: Known,
+    pub(crate) known: RecordedReads,
     pub(crate) words: Seq<u64>,
     pub(crate) sums: Vec<Option<u128>>,
     pub(crate) due: Seq<u32>,
@@ -35,14 +34,14 @@ impl Standing {
         universe: &Universe,
         rules: &Seq<Rule>,
         all: &Seq<u32>,
-        env: &Env,
+        sources: &Sources,
     ) -> Result<Standing, Memory>
-        requires all { ArePieces (rule_trees rules.now) all.now }
-        requires names { names_of env.now ≡ recorded_names (rule_trees rules.now) }
+        requires all { AreTaskPieces (rule_trees rules.now) all.now }
+        requires sources { IsSourcesOf (rule_trees rules.now) sources.now }
         ensures { IfOk result (IsStanding universe.now (rule_trees rules.now)) }
     {
-        let known = Known::of(alloc, rules, env)?;
-        let words = first_words(alloc, universe, rules)?;
+        let known = RecordedReads::of(alloc, rules, sources)?;
+        let words = clear_words(alloc, universe, sources.recorded().len())?;
         let sums = no_sums(alloc, rules.len())?;
         let due = all.copy()?;
         Ok(Standing {
@@ -62,7 +61,7 @@ impl Standing {
         mut sums: Vec<Option<u128>>,
         settled: Settled,
     ) -> Result<(Standing, Seq<u64>), Memory>
-        requires all { ArePieces (rule_trees rules.now) all.now }
+        requires all { AreTaskPieces (rule_trees rules.now) all.now }
         requires settled { IsSettledOf universe.now (rule_trees rules.now) sums.items settled }
         ensures standing { IfOk result (λ next. IsStanding universe.now (rule_trees rules.now) next.0) }
         ensures words { IfOk result (λ next. next.0.words ≡ settled.words) }
@@ -78,7 +77,7 @@ impl Standing {
         } = settled;
         remember(&mut sums, &pieces, notes.as_slice());
         let width = universe.words();
-        let due = due_of(alloc, rules, &known, all, sums.as_slice(), &words, width)?;
+        let due = due_of(alloc, &known, all, sums.as_slice(), &words, width)?;
         let standing = Standing {
             known,
             words,

@@ -4,9 +4,8 @@ ghost use Rattle.std.specs.List.{Contains};
 ghost use Rattle.lf_rounds.specs.Sums.{sum_of_rows};
 ghost use Rattle.lf_rounds.specs.views.Standings.{AreRowSums, IsCurrent};
 
-use crate::known::Known;
+use crate::known::RecordedReads;
 use crate::sums::{row_sums, sum_at};
-use lf_ast::Rule;
 use lf_base::choice::either;
 use lf_base::{Memory, Seq};
 use std::alloc::Global;
@@ -16,36 +15,35 @@ use std::alloc::Global;
 /// are the same.
 pub(crate) fn due_of(
     alloc: Global,
-    rules: &Seq<Rule>,
-    known: &Known,
+    known: &RecordedReads,
     all: &Seq<u32>,
     last: &[Option<u128>],
     words: &Seq<u64>,
     width: u32,
 ) -> Result<Seq<u32>, Memory>
     requires width { 0 < width }
-    requires within { (k : ℕ) → Contains all.now k → (k < length rules.now) × (k < length known.now.reads) × (k < length last.now) }
+    requires within { (k : ℕ) → Contains all.now k → (k < length known.now.names) × (k < length known.now.reads) × (k < length last.now) }
     ensures some { IfOk result (λ due. (k : ℕ) → Contains due k → Contains all.now k) }
     ensures others { IfOk result (λ due. (k : ℕ) → Contains all.now k → Contains due k ⊎ IsCurrent width words.now known.now.reads last.now k) }
 {
     let sums = row_sums(alloc, words.as_slice(), width)?;
-    due_by(alloc, rules, known, all, last, sums.as_slice())
+    due_by(alloc, known, all, last, sums.as_slice())
 }
 
 /// The same, by the sums of all rows.
 fn due_by(
     alloc: Global,
-    rules: &Seq<Rule>,
-    known: &Known,
+    known: &RecordedReads,
     all: &Seq<u32>,
     last: &[Option<u128>],
     sums: &[u128],
 ) -> Result<Seq<u32>, Memory>
-    requires within { (k : ℕ) → Contains all.now k → (k < length rules.now) × (k < length known.now.reads) × (k < length last.now) }
+    requires within { (k : ℕ) → Contains all.now k → (k < length known.now.names) × (k < length known.now.reads) × (k < length last.now) }
     ensures some { IfOk result (λ due. (k : ℕ) → Contains due k → Contains all.now k) }
     ensures others { (wide : ℕ) (words : List ℕ) → AreRowSums wide words sums.now → IfOk result (λ due. (k : ℕ) → Contains all.now k → Contains due k ⊎ IsCurrent wide words known.now.reads last.now k) }
 {
     let mut due = Seq::new(alloc);
+    // No more names are recorded than there are rules.
     let mut marks = vec![in alloc; false; known.names.len()]?;
     for number in all.as_slice() {
         let k = *number as usize;
@@ -53,8 +51,7 @@ fn due_by(
         let changed = is_due(numbers.as_slice(), last[k], sums);
         let test = either(changed, is_marked(numbers.as_slice(), marks.as_slice()));
         add_due(&mut due, *number, test)?;
-        let place = known.names.place(rules.get(k).name.as_str());
-        mark_if(test, place, &mut marks);
+        mark_if(test, *known.names.get(k) as usize, &mut marks);
     }
     Ok(due)
 }

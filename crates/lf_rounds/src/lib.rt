@@ -5,6 +5,7 @@ mod beginning;
 mod between;
 mod due;
 mod known;
+mod numbers;
 mod round;
 pub mod rule;
 mod solving;
@@ -12,4 +13,4 @@ mod sums;
 
 pub use beginning::first_words;
 pub use round::{Round, RoundEnd, RoundSeat};
-pub use solving::solve_shared;
+pub use solving::{solve_shared, solve_shared_by};

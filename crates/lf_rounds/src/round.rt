@@ -4,18 +4,20 @@ ghost use Rattle.lf_rounds.specs.Facts.{RoundFacts, RoundSeatFacts};
 
 mod closing;
 mod making;
+mod rows;
 mod steps;
 mod working;
 
-use crate::known::Known;
-use crate::rule::{About, Cut, Loaded, Merge, Rising, RoundView};
+use crate::known::RecordedReads;
+use crate::rule::{About, Loaded, Rising, RoundCut, RoundMerge, RoundView};
 use atomic_table::{Seat, Table};
 pub use closing::RoundEnd;
 pub(crate) use closing::{Settled, differ};
 use lf_base::choice::both;
 use lf_base::{Memory, Seq};
 use lf_board::rule::Cutting;
-pub(crate) use making::recording_rules;
+pub(crate) use making::recording_rules_by;
+pub(crate) use rows::take_row;
 use std::alloc::Global;
 use std::marker::{Brand, Model};
 
@@ -24,7 +26,7 @@ use std::marker::{Brand, Model};
 #[derive(Drop)]
 pub struct Round {
     table: Table<(), RoundView, About, Rising, Global>,
-    known: Known,
+    known: RecordedReads,
     pieces: Seq<u32>,
     start: Seq<u64>,
     width: u32,
@@ -87,7 +89,7 @@ impl Round {
         ensures kept { seat.new ≡ record seat.old { room = seat.old.room - (room + 1) } }
         ensures given { result ≡ record { board = self.now.board; is_open = true; is_whole = true; room = room; claims = [] } }
     {
-        let part = self.table.shared.split_seat::<Cut<C>>(&mut seat.seat);
+        let part = self.table.shared.split_seat::<RoundCut<C>>(&mut seat.seat);
         RoundSeat {
             seat: part,
             is_open: true,
@@ -107,7 +109,9 @@ impl Round {
             is_open,
             notes: _,
         } = other;
-        self.table.shared.join_seat::<Merge>(&mut seat.seat, part);
+        self.table
+            .shared
+            .join_seat::<RoundMerge>(&mut seat.seat, part);
         seat.is_open = both(seat.is_open, is_open);
     }
 
@@ -122,7 +126,9 @@ impl Round {
             is_open,
             notes,
         } = other;
-        self.table.shared.join_seat::<Merge>(&mut seat.seat, part);
+        self.table
+            .shared
+            .join_seat::<RoundMerge>(&mut seat.seat, part);
         seat.is_open = both(seat.is_open, is_open);
         seat.notes.extend_from_slice(notes.as_slice())?;
         Ok(())

@@ -62,9 +62,9 @@ impl TableRule<(), RoundView, About> for Rising {
 }
 
 /// A claim raises the claim word by one.
-pub struct Claim;
+pub struct RoundClaim;
 
-impl Play<(), RoundView> for Claim {
+impl Play<(), RoundView> for RoundClaim {
     ghost then = { claimed };
 }
 
@@ -90,20 +90,20 @@ impl Play<(), RoundView> for Finish {
 }
 
 /// A split takes a new seat with this room out of a seat.
-pub struct Cut<C> {
+pub struct RoundCut<C> {
     cutting: PhantomData<C>,
 }
 
-impl<C: Cutting> Split<RoundView> for Cut<C> {
+impl<C: Cutting> Split<RoundView> for RoundCut<C> {
     ghost left = { left_of C.room };
 
     ghost right = { right_of C.room };
 }
 
 /// A join gives one seat all that the other has.
-pub struct Merge;
+pub struct RoundMerge;
 
-impl Join<RoundView> for Merge {
+impl Join<RoundView> for RoundMerge {
     ghost both = { both_of };
 
     ghost spent = { spent_view };

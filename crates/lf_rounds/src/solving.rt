@@ -3,20 +3,22 @@ ghost use Rattle.std.specs.Prelude.{◌≡◌, ◌≢◌, ◌⊎◌, true, false
 ghost use Rattle.std.specs.Thread.{IsSync};
 ghost use Rattle.lf_ast.specs.Rules.{rule_trees};
 ghost use Rattle.lf_classes.specs.RowWords.{row_of_words, word_count};
+ghost use Rattle.lf_deps.specs.views.Sources.{IsSourcesOf};
 ghost use Rattle.lf_flow.specs.Reads.{names_of};
-ghost use Rattle.lf_semantics.specs.Environments.{CoversRules, IsEnvironmentOf, IsLeast};
-ghost use Rattle.lf_rounds.specs.Tasks.{ArePieces};
+ghost use Rattle.lf_semantics.specs.Environments.{CoversRules, IsEnvironment, IsEnvironmentOf, IsLeast};
+ghost use Rattle.lf_rounds.specs.Tasks.{AreTaskPieces};
 ghost use Rattle.lf_rounds.specs.Words.{environment_of};
 ghost use Rattle.lf_rounds.specs.views.Standings.{IsStanding, Rises};
 ghost use Rattle.lf_board.specs.views.Workers.{HasRoomFor};
 ghost use Rattle.lf_rounds.specs.views.Workers.{IsFresh, IsOf, IsShut};
 
 use crate::between::Standing;
-use crate::round::{differ, recording_rules};
+use crate::round::{differ, recording_rules_by, take_row};
 use crate::{Round, RoundSeat};
 use lf_ast::Rule;
 use lf_base::{Gate, Memory, Seq};
-use lf_classes::{Row, Universe};
+use lf_classes::Universe;
+use lf_deps::Sources;
 use lf_flow::Env;
 use std::alloc::Global;
 use std::thread::{Threads, join};
@@ -24,12 +26,17 @@ use std::thread::{Threads, join};
 /// Of so many rounds the last has one worker.
 const TURNS: u32 = 2;
 
+/// Over how many words a round is shared at most. Each worker of a shared round has rows of all recorded names for itself, half a mebibyte at most by this; more would take it
+/// longer to make, and to load from the words, than it saves the others.
+const SHARED_WORDS: usize = 65_536;
+
 /// The least environment of rules, by 1 to 64 workers: round by round they raise the words of the rows, until a round changes none, or leaves no rule due. It is the same for
 /// every number of workers, whoever of them computes which rule and when.
 ///
-/// The first round takes all recording rules, and each later one those that are due, since a row that they read was raised after they were computed last, and those that read what
-/// a rule taken before them records. Each second round is made by one worker, who takes the rules in their order. Where several take them, one may come to a rule while another is still at what it reads, and a long chain of such rules
-/// would take as many rounds.
+/// The first round takes all recording rules, and each later one those that are due, since a row that they read was raised after they were computed last, and those that
+/// read what a rule taken before them records. Each second round is made by one worker, who takes the rules in their order, and so is each round over more words than each
+/// worker should have for itself. Where several take the rules, one may come to a rule while another is still at what it reads, and a long chain of such rules would take as
+/// many rounds.
 pub fn solve_shared<R: Threads + Sync, G: Gate + Sync>(
     rt: &R,
     alloc: Global,
@@ -42,14 +49,33 @@ pub fn solve_shared<R: Threads + Sync, G: Gate + Sync>(
     requires covers { CoversRules universe.now (rule_trees rules.now) }
     ensures { IfOk result (IsLeast universe.now (rule_trees rules.now)) }
 {
+    let sources = Sources::of(alloc, rules)?;
+    solve_shared_by(rt, alloc, universe, rules, &sources, workers, gate)
+}
+
+/// As `solve_shared`, by the index of the same rules.
+pub fn solve_shared_by<R: Threads + Sync, G: Gate + Sync>(
+    rt: &R,
+    alloc: Global,
+    universe: &Universe,
+    rules: &Seq<Rule>,
+    sources: &Sources,
+    workers: u32,
+    gate: &G,
+) -> Result<Env, Memory>
+    requires workers { (0 < workers) × (workers ≤ 64) }
+    requires covers { CoversRules universe.now (rule_trees rules.now) }
+    requires sources { IsSourcesOf (rule_trees rules.now) sources.now }
+    ensures { IfOk result (IsLeast universe.now (rule_trees rules.now)) }
+{
     // For what its contract says of the universe.
     let _labels = universe.labels();
     let mut env = Env::bottom(alloc, universe, rules)?;
-    let all = recording_rules(alloc, rules)?;
-    let mut standing = Standing::first(alloc, universe, rules, &all, &env)?;
+    let all = recording_rules_by(alloc, rules, sources)?;
+    let mut standing = Standing::first(alloc, universe, rules, &all, sources)?;
     let mut turn = 0;
     'rounds: loop {
-        let seats = seats_in(turn, workers);
+        let seats = seats_in(turn, workers, standing.words.len());
         let (next, before) = behind_round(
             rt, alloc, universe, rules, &all, standing, seats, &mut env, gate,
         )?;
@@ -87,7 +113,7 @@ fn behind_round<R: Threads + Sync, G: Gate + Sync>(
 ) -> Result<(Standing, Seq<u64>), Memory>
     requires seats { (0 < seats) × (seats ≤ 64) }
     requires covers { CoversRules universe.now (rule_trees rules.now) }
-    requires all { ArePieces (rule_trees rules.now) all.now }
+    requires all { AreTaskPieces (rule_trees rules.now) all.now }
     requires before { IsStanding universe.now (rule_trees rules.now) before }
     requires env { IsEnvironmentOf universe.now (rule_trees rules.now) env.old }
     ensures standing { IfOk result (λ next. IsStanding universe.now (rule_trees rules.now) next.0) }
@@ -134,12 +160,16 @@ fn make<R: Threads + Sync, G: Gate + Sync>(
     run(rt, alloc, round, seat, universe, rules, workers, gate)
 }
 
-/// How many workers make the round of a turn, which are counted from 0.
-fn seats_in(turn: u32, workers: u32) -> u32
+/// How many workers make the round of a turn, which are counted from 0, over so many words.
+fn seats_in(turn: u32, workers: u32, words: usize) -> u32
     requires { (0 < workers) × (workers ≤ 64) }
     ensures { (0 < result) × (result ≤ 64) }
 {
-    if turn == TURNS - 1 { 1 } else { workers }
+    if turn == TURNS - 1 || words > SHARED_WORDS {
+        1
+    } else {
+        workers
+    }
 }
 
 /// Halves the workers until each has a thread of its own, where one can be made. Seats are joined after their workers.
@@ -183,38 +213,24 @@ fn run<R: Threads + Sync, G: Gate + Sync>(
     Ok(mine)
 }
 
-/// An environment in which the rows are those for which words stand.
+/// An environment in which the rows are those for which words stand. A row at hand that has these words stays.
 fn environment(
     alloc: Global,
     universe: &Universe,
     mut env: Env,
     words: &Seq<u64>,
 ) -> Result<Env, Memory>
-    requires { length words.now ≡ length env * word_count universe.now }
+    requires env { IsEnvironment universe.now env }
+    requires words { length words.now ≡ length env * word_count universe.now }
     ensures { IfOk result (λ made. made ≡ environment_of universe.now (names_of env) words.now) }
 {
     let _labels = universe.labels();
-    let width = universe.words();
+    let width = universe.words() as usize;
+    let mut own = vec![in alloc; 0; width]?;
     for name in 0..env.names() {
-        let row = row_at(alloc, universe, words, name, width)?;
-        env.put(name, row);
+        let at = name as usize * width;
+        let part = &words.as_slice()[at..at + width];
+        take_row(alloc, universe, &mut env, name, part, &mut own)?;
     }
     Ok(env)
-}
-
-/// The row of the name with a number, by its words.
-fn row_at(
-    alloc: Global,
-    universe: &Universe,
-    words: &Seq<u64>,
-    name: u32,
-    width: u32,
-) -> Result<Row, Memory>
-    requires width { width ≡ word_count universe.now }
-    requires within { name * width + width ≤ length words.now }
-    ensures { IfOk result (λ row. row ≡ row_of_words universe.now (take width (drop (name * width) words.now))) }
-{
-    let at = name as usize * width as usize;
-    let part = Vec::from_slice(alloc, &words.as_slice()[at..at + width as usize])?;
-    Row::from_words(alloc, universe, &Seq::from_vec(part))
 }

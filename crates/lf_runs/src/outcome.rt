@@ -4,7 +4,7 @@ ghost use Rattle.std.specs.List.{Contains};
 
 use crate::run::no_memory;
 use crate::series::write_series;
-use crate::world::World;
+use crate::world::AskedWorld;
 use anyhow::{Result, bail};
 use lf_ast::{LabelSet, Rule};
 use lf_base::Seq;
@@ -13,7 +13,7 @@ use std::alloc::{AllocError, Global};
 
 /// The samples that are stored after the steps of a world, and then of each rule that it asks for what the rule's expression gives over them. Where there are no stored
 /// samples to ask over, nothing is said of the rules.
-pub fn outcome_of(alloc: Global, rules: &Seq<Rule>, world: &World) -> Result<String> {
+pub fn outcome_of(alloc: Global, rules: &Seq<Rule>, world: &AskedWorld) -> Result<String> {
     let run = run_over(alloc, rules, world)?;
     let mut out = String::new(alloc);
     write_answer(&mut out, &run)?;
@@ -26,7 +26,11 @@ pub fn outcome_of(alloc: Global, rules: &Seq<Rule>, world: &World) -> Result<Str
 }
 
 /// The samples that are stored after the steps of a world, which has to name rules.
-pub fn run_over(alloc: Global, rules: &Seq<Rule>, world: &World) -> Result<Option<Seq<LabelSet>>> {
+pub fn run_over(
+    alloc: Global,
+    rules: &Seq<Rule>,
+    world: &AskedWorld,
+) -> Result<Option<Seq<LabelSet>>> {
     ask_steps(rules, world.steps.as_slice())?;
     strict_run(alloc, &world.series, rules, &world.steps).map_err(no_memory)
 }

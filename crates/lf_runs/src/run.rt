@@ -3,7 +3,7 @@ ghost use Rattle.std.specs.Prelude.{◌≤◌, ◌^◌, length, OnOk};
 
 use crate::outcome::outcome_of;
 use crate::timing::print_time;
-use crate::world::{World, read_worlds};
+use crate::world::{AskedWorld, read_worlds};
 use anyhow::{Result, anyhow, bail, ensure};
 use lf_accept::accept;
 use lf_ast::Rule;
@@ -58,7 +58,7 @@ fn print(
     asked: Asked,
     rules: &Seq<Rule>,
     number: usize,
-    world: &World,
+    world: &AskedWorld,
 ) -> Result<()> {
     match asked {
         Asked::Outcomes => {

@@ -9,7 +9,7 @@ use std::alloc::Global;
 
 /// Scraped series, the steps of a run over them, and what is asked behind it.
 #[derive(Drop)]
-pub struct World {
+pub struct AskedWorld {
     pub series: Seq<LabelSet>,
     /// The numbers of the rules of the steps.
     pub steps: Seq<u32>,
@@ -18,7 +18,7 @@ pub struct World {
 }
 
 /// The worlds of a file.
-pub fn read_worlds(alloc: Global, text: &str) -> Result<Vec<World>> {
+pub fn read_worlds(alloc: Global, text: &str) -> Result<Vec<AskedWorld>> {
     let mut worlds = Vec::new(alloc);
     for lines in text.split("\n\n") {
         worlds.push(read_world(alloc, lines)?)?;
@@ -27,8 +27,8 @@ pub fn read_worlds(alloc: Global, text: &str) -> Result<Vec<World>> {
 }
 
 /// A world by its lines.
-fn read_world(alloc: Global, lines: &str) -> Result<World> {
-    let mut world = World {
+fn read_world(alloc: Global, lines: &str) -> Result<AskedWorld> {
+    let mut world = AskedWorld {
         series: Seq::new(alloc),
         steps: Seq::new(alloc),
         gives: Seq::new(alloc),
@@ -40,7 +40,7 @@ fn read_world(alloc: Global, lines: &str) -> Result<World> {
 }
 
 /// Adds what a line says.
-fn add_line(alloc: Global, world: &mut World, line: &str) -> Result<()> {
+fn add_line(alloc: Global, world: &mut AskedWorld, line: &str) -> Result<()> {
     if let Some(numbers) = line.strip_prefix("steps ") {
         add_numbers(&mut world.steps, numbers)
     } else if let Some(numbers) = line.strip_prefix("gives ") {

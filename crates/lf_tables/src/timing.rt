@@ -1,7 +1,7 @@
 //! How long it takes to tell what rules read.
 ghost use Rattle.std.specs.Prelude.{◌<◌, ◌^◌, length};
 
-use crate::totals::{Totals, totals_of};
+use crate::totals::{ReadTotals, totals_of};
 use anyhow::{Result, bail};
 use lf_ast::Rule;
 use lf_base::{Memory, Seq};
@@ -18,7 +18,7 @@ pub fn print_time(rt: &HostRuntime, rules: &Seq<Rule>) -> Result<()>
         bail!("out of memory")
     };
     let begun = rt.thread_cpu_time()?;
-    let Ok(Totals { reached, cyclic }) = order_and_totals(rt.alloc(), rules, &names) else {
+    let Ok(ReadTotals { reached, cyclic }) = order_and_totals(rt.alloc(), rules, &names) else {
         bail!("out of memory")
     };
     let taken = rt.thread_cpu_time()?.saturating_sub(begun);
@@ -30,7 +30,7 @@ pub fn print_time(rt: &HostRuntime, rules: &Seq<Rule>) -> Result<()>
 }
 
 /// Orders rules, and tells how much they read together.
-fn order_and_totals(alloc: Global, rules: &Seq<Rule>, names: &TextSet) -> Result<Totals, Memory>
+fn order_and_totals(alloc: Global, rules: &Seq<Rule>, names: &TextSet) -> Result<ReadTotals, Memory>
     requires count { length rules.now < 2 ^ 32 }
 {
     let _order = order(alloc, rules)?;

@@ -11,7 +11,7 @@ use std::alloc::Global;
 
 /// How much rules read together.
 #[derive(Clone, Copy)]
-pub struct Totals {
+pub struct ReadTotals {
     /// The sum, over the rules, of how many rules each reaches.
     pub reached: usize,
     /// How many of the names are read in their own making.
@@ -19,12 +19,12 @@ pub struct Totals {
 }
 
 /// How much rules read together, of which these names are recorded.
-pub fn totals_of(alloc: Global, rules: &Seq<Rule>, names: &TextSet) -> Result<Totals, Memory>
+pub fn totals_of(alloc: Global, rules: &Seq<Rule>, names: &TextSet) -> Result<ReadTotals, Memory>
     requires count { length rules.now < 2 ^ 32 }
 {
     let sources = Sources::of(alloc, rules)?;
     let graph = NameGraph::of(alloc, &sources)?;
-    Ok(Totals {
+    Ok(ReadTotals {
         reached: reached_together(alloc, &sources, &graph)?,
         cyclic: cyclic_together(&sources, &graph, names),
     })
@@ -39,7 +39,7 @@ pub fn write_totals(
 ) -> Result<(), Memory>
     requires count { length rules.now < 2 ^ 32 }
 {
-    let Totals { reached, cyclic } = totals_of(alloc, rules, names)?;
+    let ReadTotals { reached, cyclic } = totals_of(alloc, rules, names)?;
     writeln!(out, "together {reached} reached, {cyclic} cyclic")?;
     Ok(())
 }

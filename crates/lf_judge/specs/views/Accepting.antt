@@ -4,14 +4,14 @@ use Rattle.lf_ast.specs.Rules.{rule_trees}
 use Rattle.lf_accept.specs.Taken.{FileTakes}
 use Rattle.lf_checks.specs.Files.{File}
 use Rattle.lf_report.specs.declared.report.Refused.{Refused as Refusal}
-use Rattle.lf_judge.specs.Founds.{AreContents, Content, Holds, Rules, Refused, accepted}
+use Rattle.lf_judge.specs.Founds.{AreContents, Content, HasContent, Rules, Refused, accepted}
 use Rattle.lf_judge.specs.declared.accepting.Accepted.{Accepted}
 use Rattle.lf_judge.specs.declared.accepting.Counted.{Counted}
-use Rattle.lf_judge.specs.declared.accepting.Found.{Found}
-use Rattle.lf_judge.specs.declared.accepting.Found.TheVariants as kept
+use Rattle.lf_judge.specs.declared.accepting.FileContent.{FileContent}
+use Rattle.lf_judge.specs.declared.accepting.FileContent.TheVariants as kept
 
 -- what was found in a file
-abbrev pub content_of : Found → Content
+abbrev pub content_of : FileContent → Content
 content_of (kept.Rules rules) = Rules (rule_trees rules)
 content_of (kept.Refused why) = Refused why.kind why.span
 
@@ -24,7 +24,7 @@ taken_in counted = counted.taken
 
 -- this was found in the file with a number, and so much was taken for it
 abbrev pub IsFoundIn : List File → ℕ → Counted → Type 0
-IsFoundIn files k counted = (file : File) → slice_get files k ≡ Some file → Holds k file (content_in counted) × FileTakes file.bytes counted.taken
+IsFoundIn files k counted = (file : File) → slice_get files k ≡ Some file → HasContent k file (content_in counted) × FileTakes file.bytes counted.taken
 
 -- why a file is refused, if it is
 abbrev pub refusal_in : Content → Option Refusal

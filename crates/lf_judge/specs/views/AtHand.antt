@@ -3,7 +3,7 @@ use Rattle.std.specs.Prelude.{◌≡◌, ◌≤◌, ℕ, Bool, List, length}
 use Rattle.lf_ast.specs.Rules.{RuleTree, rule_trees}
 use Rattle.lf_checks.specs.AlertTemplate.{HaveSources}
 use Rattle.lf_checks.specs.Files.{File, StandIn}
-use Rattle.lf_report.specs.declared.report.Finding.{Finding}
+use Rattle.lf_report.specs.declared.report.ReportedFinding.{ReportedFinding}
 use Rattle.lf_report.specs.declared.report.RuleReport.{RuleReport}
 use Rattle.lf_semantics.specs.Environments.{IsLeast}
 use Rattle.lf_semantics.specs.Listing.{universe_of}
@@ -36,7 +36,7 @@ abbrev pub AreTrialsAt : AtHand → Tried → Type 0
 AreTrialsAt h trials = trials ≡ record { universe = universe_of (rules_of_hand h); env = h.env.now; rules = h.rules.now }
 
 -- these are findings of the rule with a number
-abbrev pub TellsFindingsAt : AtHand → ℕ → List Finding → Type 0
+abbrev pub TellsFindingsAt : AtHand → ℕ → List ReportedFinding → Type 0
 TellsFindingsAt h number told = TellsFindings (files_at h) (rules_of_hand h) h.env.now number told
 
 -- this is told of the rule with a number

@@ -4,7 +4,7 @@ use Rattle.lf_ast.specs.Rules.{RuleTree}
 use Rattle.lf_checks.specs.Files.{File}
 use Rattle.lf_checks.specs.Finding.{Finding}
 use Rattle.lf_checks.specs.Findings.{AreFindings}
-use Rattle.lf_report.specs.declared.report.Finding.{Finding as ReportFinding}
+use Rattle.lf_report.specs.declared.report.ReportedFinding.{ReportedFinding}
 use Rattle.lf_report.specs.declared.report.Report.{Report}
 use Rattle.lf_report.specs.declared.report.RuleReport.{RuleReport}
 use Rattle.lf_semantics.specs.Listing.{Listing, universe_of}
@@ -16,7 +16,7 @@ use Rattle.lf_judge.specs.Judged.{AreChecked, Checked, files_told, finding_in, f
 
 module _ (files : List File) (rules : List RuleTree) (env : Environment) where
   -- these are findings of the rule with a number
-  abbrev pub TellsFindings : ℕ → List ReportFinding → Type 0
+  abbrev pub TellsFindings : ℕ → List ReportedFinding → Type 0
   TellsFindings i told = (found : List Finding) × AreFindings files rules env i found × (map finding_in told ≡ map finding_told found)
 
   -- the rule with a number, with the verdict on it, what stands open where verdicts are told and leave a label unresolved, and its findings

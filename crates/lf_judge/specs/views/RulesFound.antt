@@ -3,10 +3,10 @@ use Rattle.std.specs.Prelude.{◌≡◌, ℕ, true, List, length, Option, Some, 
 use Rattle.lf_ast.specs.Rules.{RuleTree}
 use Rattle.lf_open.specs.declared.open_at.OpenAt.{OpenAt}
 use Rattle.lf_semantics.specs.Listing.{universe_of}
+use Rattle.lf_forks.specs.views.Holding.{Forks}
 use Rattle.lf_built.specs.declared.row_making.RuleRow.{RuleRow}
 use Rattle.lf_built.specs.views.RuleRows.{IsRowOf}
 use Rattle.lf_trials.specs.Verdicts.{IsRuleVerdict}
-use Rattle.lf_worlds.specs.declared.readings.NameFacts.{NameFacts}
 use Rattle.lf_worlds.specs.views.Told.{rule_verdict}
 use Rattle.lf_open.specs.OpenList.{IsFirstOpen}
 use Rattle.lf_judge.specs.Judged.{has_unresolved}
@@ -15,10 +15,10 @@ use Rattle.lf_judge.specs.declared.rule_found.RuleFound.{RuleFound}
 use Rattle.lf_judge.specs.views.AtHand.{TellsFindingsAt, rules_of_hand}
 
 -- these are the rows of the rule with a number
-pub record IsRowAt (h : AtHand) (facts : NameFacts) (number : ℕ) (row : RuleRow) : Type 0 where
+pub record IsRowAt (h : AtHand) (forks : Forks) (number : ℕ) (row : RuleRow) : Type 0 where
   pub rule : RuleTree
   pub stands : slice_get (rules_of_hand h) number ≡ Some rule
-  pub told : IsRowOf h.universe.now h.env.now facts.forks rule row
+  pub told : IsRowOf h.universe.now h.env.now forks rule row
 
 -- this is found of the rule with a number: the verdict on it, and its findings
 pub record IsFoundAt (h : AtHand) (number : ℕ) (found : RuleFound) : Type 0 where

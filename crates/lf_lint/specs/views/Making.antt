@@ -3,12 +3,12 @@ use Rattle.std.specs.Prelude.{◌≡◌, ◌⊎◌, ℕ, ◌+◌, ◌<◌, ◌�
 use Rattle.lf_ast.specs.Labels.{Bytes}
 use Rattle.lf_checks.specs.Files.{File}
 use Rattle.lf_judge.specs.Judged.{IsReportOn}
-use Rattle.lf_judge.specs.Limits.{EndsIn, Fit}
+use Rattle.lf_judge.specs.Limits.{EndsIn, AreWithinLimits}
 use Rattle.lf_judge.specs.declared.judge_end.JudgeEnd.{JudgeEnd}
 use Rattle.lf_judge.specs.declared.judge_end.JudgeEnd.TheVariants as judge_end
 use Rattle.lf_report.specs.declared.report.Report.{Report}
 use Rattle.lf_words.specs.declared.options.Options.{Options}
-use Rattle.lf_lint.specs.declared.making.Made.{Made}
+use Rattle.lf_lint.specs.declared.making.FinishedReport.{FinishedReport}
 use Rattle.lf_lint.specs.declared.reading.ReadEnd.{ReadEnd}
 use Rattle.lf_lint.specs.declared.reading.ReadEnd.TheVariants as read_end
 use Rattle.lf_lint.specs.declared.status.Status.{Status}
@@ -17,7 +17,7 @@ use Rattle.lf_lint.specs.declared.unreported.Unreported.{Unreported}
 use Rattle.lf_lint.specs.declared.unreported.Unreported.TheVariants.{Read, Memory, Limit}
 use Rattle.lf_lint.specs.Asked.{AreFiles, names_of, output_of, tells_labels, written}
 use Rattle.lf_lint.specs.Ends.{HasTooManyBytes, HasTooManyFiles, PassesLimit, end_of}
-use Rattle.lf_lint.specs.Read.{AreShort, IsReached, most_bytes, most_bytes_in_all, most_files}
+use Rattle.lf_lint.specs.Read.{AreShort, AreReadBefore, most_bytes, most_bytes_in_all, most_files}
 
 -- how a run ends without a report
 abbrev pub status_of : Unreported → Status
@@ -37,7 +37,7 @@ unread_by file before read_end.Memory = Memory
 
 -- why files of these names aren't read, once so many were opened, by the counts of faults before and after
 abbrev pub IsWhyUnread : (Bytes → Option Bytes) → Option Bytes → List Bytes → ℕ → ℕ → ℕ → Unreported → Type 0
-IsWhyUnread held left names faults later opened (Read file) = (faults < later) × (opened ≡ file + 1) × (length names ≤ most_files) × IsReached held names file
+IsWhyUnread held left names faults later opened (Read file) = (faults < later) × (opened ≡ file + 1) × (length names ≤ most_files) × AreReadBefore held names file
 IsWhyUnread held left names faults later opened Memory = (later ≡ faults) × (opened ≤ length names)
 IsWhyUnread held left names faults later opened (Limit quantity count) =
     (later ≡ faults) × (HasTooManyFiles names opened quantity count ⊎ HasTooManyBytes held left names opened quantity count)
@@ -62,15 +62,15 @@ pub record AreGathered (held : Bytes → Option Bytes) (options : Options) (file
   pub are_short : AreShort files
 
 -- a report on files was made, as it is written, and with how it ends a run
-pub record IsMadeOf (options : Options) (files : List File) (made : Made) : Type 0 where
+pub record IsMadeOf (options : Options) (files : List File) (made : FinishedReport) : Type 0 where
   pub report : Report
-  pub fit : Fit (tells_labels options) files
+  pub fit : AreWithinLimits (tells_labels options) files
   pub is_report : IsReportOn files (tells_labels options) report
   pub text : made.text ≡ written (output_of options) report
   pub status : made.status ≡ end_of report
 
 -- and on the files that options ask for
-pub record IsMade (held : Bytes → Option Bytes) (options : Options) (made : Made) : Type 0 where
+pub record IsMade (held : Bytes → Option Bytes) (options : Options) (made : FinishedReport) : Type 0 where
   pub files : List File
   pub gathered : AreGathered held options files
   pub is_made_of : IsMadeOf options files made

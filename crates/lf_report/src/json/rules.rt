@@ -11,7 +11,7 @@ ghost use Rattle.lf_report.specs.views.LineIndex.{AreIndexed};
 use crate::json::labels::push_labels;
 use crate::json::pieces::{push_comma, push_count, push_text, push_value};
 use crate::line_index::{LineIndex, Position, position_in};
-use crate::{Finding, Report, RuleReport};
+use crate::{Report, ReportedFinding, RuleReport};
 use lf_base::{Memory, Text};
 use serde_json::{Value, json};
 use std::alloc::{AllocError, Global};
@@ -117,7 +117,7 @@ fn push_findings(
     report: &Report,
     indexes: &[LineIndex],
     file: usize,
-    findings: &[Finding],
+    findings: &[ReportedFinding],
 ) -> Result<(), Memory>
     requires file { file < length report.now.files }
     requires indexes { AreIndexed report.now.files indexes.now }
@@ -137,7 +137,7 @@ fn push_finding(
     report: &Report,
     indexes: &[LineIndex],
     file: usize,
-    finding: &Finding,
+    finding: &ReportedFinding,
 ) -> Result<(), Memory>
     requires file { file < length report.now.files }
     requires indexes { AreIndexed report.now.files indexes.now }
@@ -153,7 +153,7 @@ fn finding_value(
     report: &Report,
     indexes: &[LineIndex],
     file: usize,
-    finding: &Finding,
+    finding: &ReportedFinding,
 ) -> Result<Value, AllocError>
     requires file { file < length report.now.files }
     requires indexes { AreIndexed report.now.files indexes.now }

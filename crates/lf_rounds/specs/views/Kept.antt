@@ -1,16 +1,16 @@
 -- How a round and its seats are kept.
 use Rattle.std.specs.Prelude.{◌≡◌, ℕ, ◌+◌, ◌<◌, ◌≤◌, ◌^◌, List, length}
 use Rattle.atomic_table.specs.Seated.{TableId}
-use Rattle.lf_ast.specs.Labels.{Bytes}
 use Rattle.lf_board.specs.Seats.{BoardFacts}
 use Rattle.lf_rounds.specs.Facts.{RoundFacts}
 use Rattle.lf_rounds.specs.Rounds.{task_of}
 use Rattle.lf_rounds.specs.Tasks.{IsTask, names, width}
+use Rattle.lf_rounds.specs.views.Noting.{ArePlaced}
 use Rattle.lf_rounds.specs.declared.rule.About.{About}
 use Rattle.lf_rounds.specs.declared.rule.RoundView.{RoundView}
 
 -- a round beside its table: what it is over is told when it is made, and the table has the claim word and the row words
-pub record IsKept (k : About) (table : TableId) (recorded : List Bytes) (read : List (List ℕ)) (numbers words_before : List ℕ) (wide : ℕ) : Type 0 where
+pub record IsKept (k : About) (table : TableId) (recorded : List ℕ) (read : List (List ℕ)) (numbers words_before : List ℕ) (wide : ℕ) : Type 0 where
   pub task : IsTask (task_of k)
   pub reads : k.reads.value ≡ read
   pub pieces : k.pieces.value ≡ numbers
@@ -21,7 +21,7 @@ pub record IsKept (k : About) (table : TableId) (recorded : List Bytes) (read : 
   pub words : table.words ≡ length words_before + 1
   pub fits : length words_before + 1 < 2 ^ 64
   pub slots : table.slots ≡ 0
-  pub names : recorded ≡ names (task_of k)
+  pub names : ArePlaced (names (task_of k)) (task_of k).rules recorded
   pub width : wide ≡ width (task_of k)
 
 abbrev pub round_facts : About → TableId → List ℕ → RoundFacts

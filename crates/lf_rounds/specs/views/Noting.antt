@@ -1,13 +1,13 @@
 -- What is noted of the pieces that a seat did, and what the notes tell behind the round.
-use Rattle.std.specs.Prelude.{◌≡◌, ℕ, List, [], ◌++◌, length, Option, Some, slice_get, slice_index_or}
+use Rattle.std.specs.Prelude.{◌≡◌, ℕ, false, List, [], ◌++◌, length, Option, Some, slice_get, slice_index, slice_index_or}
 use Rattle.std.specs.List.{Contains}
 use Rattle.lf_ast.specs.Labels.{Bytes}
 use Rattle.lf_ast.specs.Rules.{RuleTree}
 use Rattle.lf_classes.specs.RowWords.{WordsLeq, word_count}
 use Rattle.lf_semantics.specs.Environments.{recorded_names}
-use Rattle.lf_semantics.specs.Listing.{Listing}
+use Rattle.lf_semantics.specs.Listing.{Listing, place}
 use Rattle.lf_rounds.specs.Sums.{sum_of_loads, sum_of_rows}
-use Rattle.lf_rounds.specs.Tasks.{AreReads, HoldsRule, Task, read_by, rule_of}
+use Rattle.lf_rounds.specs.Tasks.{AreReads, WordsHoldRule, Task, read_by, rule_of}
 use Rattle.lf_rounds.specs.declared.rule.Done.{Done}
 use Rattle.lf_rounds.specs.declared.rule.Loaded.{Loaded}
 use Rattle.lf_rounds.specs.declared.rule.RoundView.{RoundView}
@@ -28,7 +28,7 @@ pub record IsRemembered (u : Listing) (rules : List RuleTree) (words : List ℕ)
   pub seen : List ℕ
   pub wide : length seen ≡ length words
   pub leq : WordsLeq seen words
-  pub held : HoldsRule u rules words seen r
+  pub held : WordsHoldRule u rules words seen r
   pub summed : sum ≡ sum_of_rows (word_count u) seen numbers
 
 -- so it is with a piece of a round, and the sum that is noted of it
@@ -44,7 +44,12 @@ AreRemembered u rules reads words sums =
     (number : ℕ) (r : RuleTree) (sum : ℕ) → slice_get rules number ≡ Some r → slice_get sums number ≡ Some (Some sum)
     → IsRemembered u rules words r (slice_index_or reads number []) sum
 
--- what rounds know of rules: the recorded names, and of each rule the numbers of those that it reads
-pub record IsKnown (rules : List RuleTree) (recorded : List Bytes) (read : List (List ℕ)) : Type 0 where
-  pub names : recorded ≡ recorded_names rules
+-- of each recording rule the number of its name among these
+pub record ArePlaced (recorded : List Bytes) (rules : List RuleTree) (numbers : List ℕ) : Type 0 where
+  pub count : length numbers ≡ length rules
+  pub each : (number : ℕ) (r : RuleTree) → slice_get rules number ≡ Some r → r.alert ≡ false → slice_index numbers number ≡ place recorded r.name
+
+-- what rounds know of rules: of each the number of the name that it records, and the numbers of those that it reads
+pub record IsKnown (rules : List RuleTree) (numbers : List ℕ) (read : List (List ℕ)) : Type 0 where
+  pub names : ArePlaced (recorded_names rules) rules numbers
   pub reads : AreReads rules read

@@ -14,6 +14,7 @@ use Rattle.lf_rounds.specs.Facts.{RoundFacts}
 use Rattle.lf_rounds.specs.Rounds.{noted}
 use Rattle.lf_rounds.specs.Tasks.{Task, place_of, stands_for, stored_word}
 use Rattle.lf_rounds.specs.Words.{environment_of}
+use Rattle.lf_rounds.specs.declared.round.rows.RowRoom.{RowRoom}
 use Rattle.lf_rounds.specs.declared.rule.RoundView.{RoundView}
 use Rattle.lf_rounds.specs.views.Kept.{board_at}
 
@@ -90,3 +91,7 @@ left_of count (Some piece) v = suc (count - length v.board.claims)
 pub record IsMade (u : Listing) (ns : List Bytes) (words : List ℕ) (count : ℕ) (env : Environment) : Type 0 where
   pub names : names_of env ≡ ns
   pub rows : (k : ℕ) → k < count → slice_index_or (rows_of env) k [] ≡ slice_index_or (rows_of (environment_of u ns words)) k []
+
+-- there is room for so many words of a row that is loaded, and of one that is at hand
+abbrev pub HasRoom : ℕ → RowRoom → Type 0
+HasRoom wide room = (length room.loaded.items ≡ wide) × (length room.own.items ≡ wide)

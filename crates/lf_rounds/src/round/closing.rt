@@ -12,7 +12,7 @@ ghost use Rattle.lf_rounds.specs.views.Ending.{EndsRound};
 ghost use Rattle.lf_rounds.specs.views.Noting.{AreMadeBy, IsKnown};
 
 use super::{Round, RoundSeat};
-use crate::known::Known;
+use crate::known::RecordedReads;
 use crate::rule::Loaded;
 use atomic_table::Closed;
 use lf_base::{Memory, Seq};
@@ -30,7 +30,7 @@ pub struct RoundEnd {
 pub(crate) struct Settled {
     pub(crate) words: Seq<u64>,
     pub(crate) start: Seq<u64>,
-    pub(crate) known: Known,
+    pub(crate) known: RecordedReads,
     pub(crate) pieces: Seq<u32>,
     pub(crate) notes: Vec<Loaded>,
 }
@@ -110,9 +110,9 @@ fn row_words(alloc: Global, closed: &Closed<(), Global>, count: usize) -> Result
     ensures words { IfOk result (λ words. words ≡ drop 1 (slots_items closed.now.words)) }
     ensures fit { IfOk result AreWords }
 {
-    let mut words = Seq::from_vec(Vec::with_capacity(alloc, count)?);
+    let mut words = Vec::with_capacity(alloc, count)?;
     for k in 0..count {
-        words.push(closed.word(k + 1))?;
+        words.push_reserved(closed.word(k + 1));
     }
-    Ok(words)
+    Ok(Seq::from_vec(words))
 }

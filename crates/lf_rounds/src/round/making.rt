@@ -2,21 +2,21 @@
 ghost use Rattle.std.specs.Prelude.{◌≡◌, ◌*◌, ◌<◌, ◌≤◌, ◌^◌, ◌∷◌, ◌++◌, [], cond, length, IfOk, OnOk};
 ghost use Rattle.lf_ast.specs.Rules.{rule_trees};
 ghost use Rattle.lf_classes.specs.RowWords.{word_count};
+ghost use Rattle.lf_deps.specs.views.Sources.{IsSourcesOf};
 ghost use Rattle.lf_semantics.specs.Environments.{CoversRules, recorded_names};
 ghost use Rattle.lf_rounds.specs.Facts.{IsOver, IsOverDue, first_seat};
-ghost use Rattle.lf_rounds.specs.Tasks.{ArePieces, AreRecording, IsBelowLeast, OthersHold, is_recording};
+ghost use Rattle.lf_rounds.specs.Tasks.{AreTaskPieces, AreRecording, IsBelowLeast, OthersHold, is_recording};
 ghost use Rattle.lf_rounds.specs.views.Noting.{IsKnown};
 
 use super::{Round, RoundSeat};
-use crate::known::Known;
+use crate::known::RecordedReads;
 use crate::rule::About;
 use atomic_table::Table;
 use lf_ast::Rule;
 use lf_base::{Memory, Seq};
 use lf_board::rule::Counts;
 use lf_classes::Universe;
-use lf_deps::order;
-use lf_flow::Env;
+use lf_deps::{Sources, order_of};
 use std::alloc::Global;
 use std::snapshot::Snapshot;
 
@@ -39,9 +39,9 @@ impl Round {
         ensures round { IfOk result (λ made. IsOver universe.now rules.now words.now seats made.0) }
         ensures seat { IfOk result (λ made. made.1 ≡ first_seat made.0) }
     {
-        let env = Env::bottom(alloc, universe, rules)?;
-        let known = Known::of(alloc, rules, &env)?;
-        let pieces = recording_rules(alloc, rules)?;
+        let sources = Sources::of(alloc, rules)?;
+        let known = RecordedReads::of(alloc, rules, &sources)?;
+        let pieces = recording_rules_by(alloc, rules, &sources)?;
         let start = words.copy()?;
         let made = Round::of_due(alloc, universe, rules, known, pieces, start, seats)?;
         Ok(made)
@@ -52,7 +52,7 @@ impl Round {
         alloc: Global,
         universe: &Universe,
         rules: &Seq<Rule>,
-        known: Known,
+        known: RecordedReads,
         pieces: Seq<u32>,
         start: Seq<u64>,
         seats: u32,
@@ -97,11 +97,16 @@ impl Round {
     }
 }
 
-/// The numbers of the recording rules, in the order of the rules.
-pub(crate) fn recording_rules(alloc: Global, rules: &Seq<Rule>) -> Result<Seq<u32>, Memory>
-    ensures { IfOk result (ArePieces (rule_trees rules.now)) }
+/// The numbers of the recording rules, in the order of the rules, by their index.
+pub(crate) fn recording_rules_by(
+    alloc: Global,
+    rules: &Seq<Rule>,
+    sources: &Sources,
+) -> Result<Seq<u32>, Memory>
+    requires { IsSourcesOf (rule_trees rules.now) sources.now }
+    ensures { IfOk result (AreTaskPieces (rule_trees rules.now)) }
 {
-    let order = order(alloc, rules)?;
+    let order = order_of(alloc, sources, rules)?;
     let mut pieces = Seq::new(alloc);
     for number in order.as_slice() {
         add_recording(rules, *number, &mut pieces)?;

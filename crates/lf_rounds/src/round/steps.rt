@@ -6,7 +6,7 @@ ghost use Rattle.lf_rounds.specs.Tasks.{place_of, stored_word, width};
 ghost use Rattle.lf_rounds.specs.views.Working.{IsUsed, seen};
 
 use super::Round;
-use crate::rule::{Claim, Finish, Note, Raise, RoundView};
+use crate::rule::{Finish, Note, Raise, RoundClaim, RoundView};
 use atomic_table::Seat;
 
 impl Round {
@@ -19,7 +19,7 @@ impl Round {
         ensures number { MatchOption result (seat.new.me.0 ≡ missed_view seat.old.me.0) (λ n. (n < self.now.board.pieces) × (seat.new.me.0 ≡ claimed_view seat.old.me.0 n)) }
         ensures left { IfSome result (λ n. length seat.old.me.0.board.claims < self.now.board.pieces) }
     {
-        let found = self.table.shared.fetch_add::<Claim>(seat, 0, 1);
+        let found = self.table.shared.fetch_add::<RoundClaim>(seat, 0, 1);
         if found < self.pieces.len() as u64 {
             Some(found as u32)
         } else {

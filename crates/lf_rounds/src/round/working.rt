@@ -1,7 +1,7 @@
 //! Work on the pieces of a round.
 ghost use Rattle.std.specs.Prelude.{◌≡◌, ℕ, true, false, ◌+◌, ◌*◌, ◌<◌, ◌++◌, List, [], ◌∷◌, length, sum, IfErr, IfOk, Some, take, drop};
 ghost use Rattle.std.specs.List.{Contains};
-ghost use Rattle.lf_ast.specs.Rules.{rule_tree, rule_trees};
+ghost use Rattle.lf_ast.specs.Rules.{RuleTree, rule_tree, rule_trees};
 ghost use Rattle.lf_laws.specs.Ascending.{AreAscending};
 ghost use Rattle.lf_semantics.specs.ClassRows.{HasShape};
 ghost use Rattle.lf_semantics.specs.Environments.{IsEnvironmentOf, recorded_row};
@@ -11,8 +11,9 @@ ghost use Rattle.lf_rounds.specs.Rounds.{IsSummed};
 ghost use Rattle.lf_rounds.specs.Sums.{sum_of_loads, sum_of_rows};
 ghost use Rattle.lf_rounds.specs.Tasks.{names, read_by, rule_of, stands_for, width};
 ghost use Rattle.lf_rounds.specs.views.Noting.{AreNoted, DidMore, IsNoted};
-ghost use Rattle.lf_rounds.specs.views.Working.{Begins, ChangedAt, HasRead, HasWorked, IsAsBefore, IsStored, IsUsed, seen};
+ghost use Rattle.lf_rounds.specs.views.Working.{Begins, ChangedAt, HasRead, HasRoom, HasWorked, IsAsBefore, IsStored, IsUsed, seen};
 
+use super::rows::{RowRoom, take_row};
 use super::{Round, RoundSeat};
 use crate::rule::{Loaded, RoundView};
 use crate::sums::with_words;
@@ -193,17 +194,19 @@ impl Round {
     {
         // For what is known of a round.
         let _width = self.width;
+        let mut room = RowRoom::of(alloc, self.width)?;
         let mut next = Some(first);
         while let Some(piece) = next {
             gate.pass(ROUNDS, piece);
-            let note = self.work_on(alloc, seat, universe, rules, env, piece)?;
+            let note = self.work_on(alloc, seat, universe, rules, env, &mut room, piece)?;
             let _ = notes.push(note);
             next = self.claim(seat);
         }
         Ok(())
     }
 
-    /// Works on a piece, and notes what was loaded. The rows of the names that its rule doesn't read are left as they are in the environment.
+    /// Works on a piece, and notes what was loaded. The row that was computed is kept for its name in the environment: where no other seat raises it, it is the one that is
+    /// loaded for the rules that read it.
     fn work_on(
         &self,
         alloc: Global,
@@ -211,6 +214,7 @@ impl Round {
         universe: &Universe,
         rules: &Seq<Rule>,
         env: &mut Env,
+        room: &mut RowRoom,
         piece: u32,
     ) -> Result<Loaded, Memory>
         requires used { IsUsed self.now seat.old.table_id seat.old.me }
@@ -218,6 +222,8 @@ impl Round {
         requires piece { piece < self.now.board.pieces }
         requires over { (universe.now ≡ self.now.universe) × (rules.now ≡ self.now.rules) }
         requires env { IsEnvironmentOf self.now.universe (rule_trees self.now.rules) env.old }
+        requires room { HasRoom (width (task self.now)) room.old }
+        ensures room { HasRoom (width (task self.now)) room.new }
         ensures used { IsUsed self.now seat.new.table_id seat.new.me }
         ensures env { IfOk result (λ _. IsEnvironmentOf self.now.universe (rule_trees self.now.rules) env.new) }
         ensures board { seat.new.me.0.board ≡ seat.old.me.0.board }
@@ -229,10 +235,11 @@ impl Round {
         // For what is known of a round.
         let _width = self.width;
         let rule = self.rule_of(rules, piece);
-        let sum = self.load_read(alloc, seat, universe, env, rule, piece)?;
+        let sum = self.load_read(alloc, seat, universe, env, room, rule, piece)?;
         let row = recorded_row(alloc, universe, env, rule)?;
-        let name = self.known.names.place(rule.name.as_str());
-        self.raise_row(seat, name, &row);
+        let name = self.recorded_by(piece);
+        self.raise_row(seat, name, &row, &mut room.own);
+        env.put(name, row);
         Ok(Loaded { piece, sum })
     }
 
@@ -245,6 +252,15 @@ impl Round {
     {
         let number = *self.pieces.get(piece as usize);
         rules.get(number as usize)
+    }
+
+    /// The number of the name that the rule of a piece records.
+    fn recorded_by(&self, piece: u32) -> u32
+        requires { piece < self.now.board.pieces }
+        ensures { (r : RuleTree) → rule_of (task self.now) piece ≡ Some r → result ≡ place (names (task self.now)) r.name }
+    {
+        let number = *self.pieces.get(piece as usize);
+        *self.known.names.get(number as usize)
     }
 
     /// The numbers of the names that the rule of a piece reads.
@@ -264,6 +280,7 @@ impl Round {
         seat: &mut Seat<(), RoundView>,
         universe: &Universe,
         env: &mut Env,
+        room: &mut RowRoom,
         rule: &Rule,
         piece: u32,
     ) -> Result<u128, Memory>
@@ -273,6 +290,8 @@ impl Round {
         requires env { IsEnvironmentOf self.now.universe (rule_trees self.now.rules) env.old }
         requires piece { piece < self.now.board.pieces }
         requires rule { rule_of (task self.now) piece ≡ Some (rule_tree rule.now) }
+        requires room { HasRoom (width (task self.now)) room.old }
+        ensures room { HasRoom (width (task self.now)) room.new }
         ensures used { IsUsed self.now seat.new.table_id seat.new.me }
         ensures same { IsAsBefore seat.old.me.0 seat.new.me.0 }
         ensures env { IfOk result (λ _. IsEnvironmentOf self.now.universe (rule_trees self.now.rules) env.new) }
@@ -283,7 +302,7 @@ impl Round {
         // For what is known of a round.
         let _width = self.width;
         let numbers = self.read_by(piece);
-        let sum = self.load_rows(alloc, seat, universe, env, numbers.as_slice())?;
+        let sum = self.load_rows(alloc, seat, universe, env, room, numbers.as_slice())?;
         Ok(sum)
     }
 
@@ -294,6 +313,7 @@ impl Round {
         seat: &mut Seat<(), RoundView>,
         universe: &Universe,
         env: &mut Env,
+        room: &mut RowRoom,
         numbers: &[u32],
     ) -> Result<u128, Memory>
         requires used { IsUsed self.now seat.old.table_id seat.old.me }
@@ -302,6 +322,8 @@ impl Round {
         requires env { IsEnvironmentOf self.now.universe (rule_trees self.now.rules) env.old }
         requires ascend { AreAscending numbers.now }
         requires within { (k : ℕ) → Contains numbers.now k → k < length env.old }
+        requires room { HasRoom (width (task self.now)) room.old }
+        ensures room { HasRoom (width (task self.now)) room.new }
         ensures used { IsUsed self.now seat.new.table_id seat.new.me }
         ensures same { IsAsBefore seat.old.me.0 seat.new.me.0 }
         ensures env { IfOk result (λ _. IsEnvironmentOf self.now.universe (rule_trees self.now.rules) env.new) }
@@ -313,56 +335,60 @@ impl Round {
         let _width = self.width;
         let mut sum = 0;
         for number in numbers {
-            let words = self.load_words(alloc, seat, *number)?;
-            sum = with_words(sum, words.as_slice())?;
-            let row = Row::from_words(alloc, universe, &words)?;
-            env.put(*number, row);
+            self.load_words(seat, *number, &mut room.loaded);
+            sum = with_words(sum, room.loaded.as_slice())?;
+            take_row(
+                alloc,
+                universe,
+                env,
+                *number,
+                room.loaded.as_slice(),
+                &mut room.own,
+            )?;
         }
         Ok(sum)
     }
 
     /// Loads the words of the row of the name with a number.
-    fn load_words(
-        &self,
-        alloc: Global,
-        seat: &mut Seat<(), RoundView>,
-        number: u32,
-    ) -> Result<Seq<u64>, Memory>
+    fn load_words(&self, seat: &mut Seat<(), RoundView>, number: u32, words: &mut Vec<u64>)
         requires used { IsUsed self.now seat.old.table_id seat.old.me }
         requires work { (seat.old.me.0.busy ≡ true) × (seat.old.me.0.raised ≡ 0) }
         requires number { number < length (names (task self.now)) }
+        requires room { length words.old.items ≡ width (task self.now) }
         ensures used { IsUsed self.now seat.new.table_id seat.new.me }
         ensures same { IsAsBefore seat.old.me.0 seat.new.me.0 }
         ensures others { ChangedAt (number * width (task self.now)) (width (task self.now)) (seen self.now seat.old.me) (seen self.now seat.new.me) }
-        ensures words { IfOk result (λ words. words ≡ take (width (task self.now)) (drop (number * width (task self.now)) (seen self.now seat.new.me))) }
-        ensures len { IfOk result (λ words. length words ≡ width (task self.now)) }
-        ensures loads { IfOk result (λ words. sum_of_loads seat.new.me.0.loads ≡ sum_of_loads seat.old.me.0.loads + sum words) }
+        ensures words { words.new.items ≡ take (width (task self.now)) (drop (number * width (task self.now)) (seen self.now seat.new.me)) }
+        ensures len { length words.new.items ≡ width (task self.now) }
+        ensures loads { sum_of_loads seat.new.me.0.loads ≡ sum_of_loads seat.old.me.0.loads + sum words.new.items }
     {
-        let at = number as usize * self.width as usize;
-        let mut words = Seq::from_vec(Vec::with_capacity(alloc, self.width as usize)?);
-        for k in 0..self.width {
-            words.push(self.load(seat, at + k as usize))?;
+        let width = self.width as usize;
+        let at = number as usize * width;
+        for k in 0..width {
+            words[k] = self.load(seat, at + k);
         }
-        Ok(words)
     }
 
     /// Raises the words of the row of the name with a number, and with the last one the piece is done.
-    fn raise_row(&self, seat: &mut Seat<(), RoundView>, name: usize, row: &Row)
+    fn raise_row(&self, seat: &mut Seat<(), RoundView>, name: u32, row: &Row, words: &mut Vec<u64>)
         requires used { IsUsed self.now seat.old.table_id seat.old.me }
         requires work { (seat.old.me.0.busy ≡ true) × (seat.old.me.0.raised ≡ 0) }
         requires name { name < length (names (task self.now)) }
         requires row { HasShape self.now.universe row.now }
         requires stored { IsStored (task self.now) seat.old.me.0.piece (seen self.now seat.old.me) row.now (name * width (task self.now)) }
         requires summed { IsSummed (task self.now) (record { piece = seat.old.me.0.piece; loads = seat.old.me.0.loads }) }
+        requires room { length words.old.items ≡ width (task self.now) }
+        ensures room { length words.new.items ≡ length words.old.items }
         ensures used { IsUsed self.now seat.new.table_id seat.new.me }
         ensures done { (seat.new.me.0.busy ≡ false) × (seat.new.me.0.board ≡ seat.old.me.0.board) }
         ensures did { seat.new.me.0.done ≡ seat.old.me.0.done ++ record { piece = seat.old.me.0.piece; loads = seat.old.me.0.loads } ∷ [] }
     {
-        let at = name * self.width as usize;
-        let last = self.width - 1;
+        row.write_words(words);
+        let at = name as usize * self.width as usize;
+        let last = self.width as usize - 1;
         for k in 0..last {
-            self.raise(seat, at + k as usize, row.word(k));
+            self.raise(seat, at + k, words[k]);
         }
-        self.finish(seat, at + last as usize, row.word(last));
+        self.finish(seat, at + last, words[last]);
     }
 }

@@ -19,7 +19,11 @@ const TWO_RULES: &str =
 const THREE_RULES: &str =
     "groups:\n- name: g\n  rules:\n  - record: a\n    expr: foo{a=\"\"}\n  - record: b\n    expr: foo{a!=\"\"}\n  - record: c\n    expr: foo{a=~\".+\"}\n";
 
-/// How a run of these words ends at a gate, and what it writes. There are files of one, two and three rules, one that is refused and one that is empty.
+const OF_ONE_NAME: &str =
+    "groups:\n- name: g\n  rules:\n  - record: a:t\n    expr: sum by (job) (a:t)\n  - record: a:t\n    expr: sum by (job, env) (x)\n";
+
+/// How a run of these words ends at a gate, and what it writes. There are files of one, two and three rules, one of two rules that record one name, one that is refused and
+/// one that is empty.
 fn reported<R: Threads + Sync, G: Gate + Sync>(
     rt: &R,
     alloc: Global,
@@ -30,6 +34,7 @@ fn reported<R: Threads + Sync, G: Gate + Sync>(
     files.add("one.yml", ONE_RULE.as_bytes())?;
     files.add("two.yml", TWO_RULES.as_bytes())?;
     files.add("three.yml", THREE_RULES.as_bytes())?;
+    files.add("twice.yml", OF_ONE_NAME.as_bytes())?;
     files.add("refused.yml", b"groups: &x []\n")?;
     files.add("empty.yml", b"")?;
     let mut out = MemSink::new(alloc, 10_000, 10_000)?;
@@ -123,6 +128,19 @@ fn two_workers_meet_at_two_files(rt: HostRuntime) -> Result<(), Fail> {
         0,
         "lint --workers 2 one.yml refused.yml empty.yml",
         "lint one.yml refused.yml empty.yml",
+    )?;
+    assert!(rt; met);
+    Ok(())
+}
+
+#[test]
+fn two_workers_meet_at_two_rows(rt: HostRuntime) -> Result<(), Fail> {
+    let met = is_met(
+        &rt,
+        rt.alloc(),
+        1,
+        "lint --labels --workers 2 twice.yml",
+        "lint --labels twice.yml",
     )?;
     assert!(rt; met);
     Ok(())

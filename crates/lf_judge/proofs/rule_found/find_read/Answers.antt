@@ -31,4 +31,4 @@ by-requires-clause-readings g c =
     let S : Sources → Type 0 = λ s. IsSourcesOf rules s in
     let N : Sources → Type 0 = λ s. IsNameGraphOf s c.args.recorded.now.graph in
     let G : Components → Type 0 = λ x. IsNameGraphOf c.sources.result.now x in
-    record { sources = subst S (sym c.sources.ensures) r.sources; graph = subst G (sym c.graph.ensures) (subst N (sym c.sources.ensures) r.graph); facts = r.facts }
+    record { sources = subst S (sym c.sources.ensures) r.sources; graph = subst G (sym c.graph.ensures) (subst N (sym c.sources.ensures) r.graph); forks = r.forks }

@@ -20,9 +20,9 @@ of-requires g c =
 pub make_rows-requires-clause-readings : goal.make_rows-requires-clause-readings
 make_rows-requires-clause-readings g c κs within =
     let are = are_of c.args.hand.now c.recorded-recorded.result.now c.requires.ready c.recorded-recorded.ensures in
-    record { sources = are.sources; graph = are.graph; facts = c.in_ok-facts.ensures }
+    record { sources = are.sources; graph = are.graph; forks = c.in_ok-forks.ensures }
 
 pub find_read-requires-clause-readings : goal.find_read-requires-clause-readings
 find_read-requires-clause-readings g c κs within =
     let are = are_of c.args.hand.now c.recorded-recorded.result.now c.requires.ready c.recorded-recorded.ensures in
-    record { sources = are.sources; graph = are.graph; facts = c.in_ok-facts.ensures }
+    record { sources = are.sources; graph = are.graph; forks = c.in_ok-forks.ensures }

@@ -3,8 +3,6 @@ use Rattle.lf_laws.proofs.Slices.{some_at}
 use Rattle.lf_ast.specs.Rules.{RuleTree, rule_tree}
 use Rattle.lf_deps.proofs.RuleTrees.{tree_at}
 use Rattle.lf_deps.specs.views.Sources.{IsSourcesOf, Sources}
-use Rattle.lf_forks.specs.views.Holding.{Forks}
-use Rattle.lf_built.specs.views.RuleRows.{IsRowOf}
 use Rattle.lf_judge.specs.views.AtHand.{rules_of_hand}
 use Rattle.lf_judge.proofs.rule_found.make_row.Goals as goal
 
@@ -23,5 +21,5 @@ returns c =
     record {
       rule = r;
       stands = at;
-      told = subst (λ (f : Forks). IsRowOf hand.universe.now hand.env.now f r c.in_ok-row.row) c.forks.ensures (c.in_ok-row.ensures r at);
+      told = c.in_ok-row.ensures r at;
     }

@@ -1,7 +1,7 @@
 use denote.Param.Send.{sendable}
 use Rattle.std.proofs.Crossing.{crosses}
 use Rattle.lf_checks.proofs.rule_dependency.RecordedNames.TheSendSync as recorded
-use Rattle.lf_worlds.proofs.readings.NameFacts.TheSendSync as facts
+use Rattle.lf_forks.proofs.forks.Forks.TheSendSync as forks
 use Rattle.lf_judge.proofs.Shared.{hand_sync}
 use Rattle.std.proofs.Common.{◌∙◌, rules, subst, sym}
 use Rattle.std.proofs.lemmas.List.{length-map}
@@ -17,14 +17,14 @@ use Rattle.lf_judge.proofs.rule_found.make_rows.Goals as goal
 pub returns : goal.returns
 returns g c =
     let hand = c.args.hand.now in
-    let facts = c.args.facts.now in
+    let forks = c.args.forks.now in
     IfOk-weaker c.map_pieces.result _ _
-    (λ rows is. side_by_side (IsRowOf hand.universe.now hand.env.now facts.forks) (rules_of_hand hand) rows (is.count ∙ c.len.ensures ∙ sym (length-map hand.rules.now rule_tree))
+    (λ rows is. side_by_side (IsRowOf hand.universe.now hand.env.now forks) (rules_of_hand hand) rows (is.count ∙ c.len.ensures ∙ sym (length-map hand.rules.now rule_tree))
     (λ i r row at there.
-    let own = each_value _ _ _ (IsRowAt hand facts) (λ k x h gave. search rules) rows is i row there in
-    subst (λ (t : RuleTree). IsRowOf hand.universe.now hand.env.now facts.forks t row) (one_at (rules_of_hand hand) i own.rule r own.stands at) own.told))
+    let own = each_value _ _ _ (IsRowAt hand forks) (λ k x h gave. search rules) rows is i row there in
+    subst (λ (t : RuleTree). IsRowOf hand.universe.now hand.env.now forks t row) (one_at (rules_of_hand hand) i own.rule r own.stands at) own.told))
     c.map_pieces.ensures.each
 
 pub map_pieces-requires-sync-F : goal.map_pieces-requires-sync-F
 map_pieces-requires-sync-F g c κs within =
-    search (sendable, hand_sync, recorded.the_sync, facts.the_sync, crosses) depth 40 fits 200000
+    search (sendable, hand_sync, recorded.the_sync, forks.the_sync, crosses) depth 40 fits 200000

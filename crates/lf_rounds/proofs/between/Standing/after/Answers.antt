@@ -1,7 +1,6 @@
 use Rattle.std.proofs.Common.{◌⊎◌, ℕ, List, [], Option, length, refl, ap, sym, ◌∙◌, subst, arith}
 use Rattle.std.specs.List.{Contains}
-use Rattle.std.proofs.lemmas.List.{length-map}
-use Rattle.lf_ast.specs.Rules.{rule_tree, rule_trees}
+use Rattle.lf_ast.specs.Rules.{rule_trees}
 use Rattle.lf_rounds.specs.Tasks.{Task}
 use Rattle.lf_rounds.specs.declared.rule.Loaded.{Loaded}
 use Rattle.lf_rounds.specs.views.Noting.{AreMadeBy}
@@ -15,7 +14,7 @@ due_of-requires-clause-within c k d =
     let rules = rule_trees c.args.rules.now in
     let h = pieces_within rules c.args.all.now c.requires.all k d in
     let is = c.requires.settled in
-    (omega (arith, h, length-map c.args.rules.now rule_tree), omega (arith, h, is.known.reads.count), omega (arith, h, is.count, c.remember.ensures.len, ap length c.as_slice-2.ensures.value))
+    (omega (arith, h, is.known.names.count), omega (arith, h, is.known.reads.count), omega (arith, h, is.count, c.remember.ensures.len, ap length c.as_slice-2.ensures.value))
 
 pub returns-clause-standing : goal.returns-clause-standing
 returns-clause-standing c =

@@ -1,4 +1,4 @@
-use Rattle.std.proofs.Common.{◌≡◌, ◌+◌, ◌<◌, ℕ, length, slice_index}
+use Rattle.std.proofs.Common.{◌≡◌, ◌+◌, ◌<◌, ℕ, length, slice_index, take}
 use Rattle.std.specs.List.{sum}
 use Rattle.lf_rounds.specs.Facts.{task}
 use Rattle.lf_rounds.specs.Sums.{sum_of_loads}
@@ -11,7 +11,7 @@ invariant-loop-k l = record {
   used : IsUsed l.self l.seat.table_id l.seat.me;
   same : IsAsBefore l.initial.seat.me.0 l.seat.me.0;
   others : ChangedAt l.at (width (task l.self)) (seen l.self l.initial.seat.me) (seen l.self l.seat.me);
-  len : length l.words ≡ l.k;
-  loads : sum_of_loads l.seat.me.0.loads ≡ sum_of_loads l.initial.seat.me.0.loads + sum l.words;
-  read : (j : ℕ) → j < l.k → slice_index l.words j ≡ slice_index (seen l.self l.seat.me) (l.at + j);
+  full : length l.words.items ≡ width (task l.self);
+  loads : sum_of_loads l.seat.me.0.loads ≡ sum_of_loads l.initial.seat.me.0.loads + sum (take l.k l.words.items);
+  read : (j : ℕ) → j < l.k → slice_index (take l.k l.words.items) j ≡ slice_index (seen l.self l.seat.me) (l.at + j);
 }

@@ -1,14 +1,8 @@
 use Rattle.std.proofs.Common.{ℕ, List, inl, length, sym, ◌∙◌, ap, subst}
 use Rattle.lf_ast.specs.Rules.{rule_trees}
-use Rattle.lf_fix.proofs.Rounds.{start_names}
-use Rattle.lf_flow.specs.Reads.{names_of}
-use Rattle.lf_semantics.specs.Environments.{recorded_names}
-use Rattle.lf_rounds.specs.Tasks.{ArePieces, IsBelowLeast}
+use Rattle.lf_rounds.specs.Tasks.{AreTaskPieces, IsBelowLeast}
 use Rattle.lf_rounds.proofs.Pieces.{pieces_all, pieces_recording}
 use Rattle.lf_rounds.proofs.round.Round.new.Goals as goal
-
-pub of-requires : goal.of-requires
-of-requires c = ap names_of c.in_ok-env.ensures ∙ start_names c.args.universe.now (recorded_names (rule_trees c.args.rules.now))
 
 pub of_due-requires-clause-recording : goal.of_due-requires-clause-recording
 of_due-requires-clause-recording c = pieces_recording (rule_trees c.args.rules.now) c.in_ok-pieces.pieces c.in_ok-pieces.ensures
@@ -27,7 +21,7 @@ of_due-requires-clause-below c =
 pub returns-clause-round : goal.returns-clause-round
 returns-clause-round c =
     let over = c.in_ok-made.ensures.round in
-    let P : List ℕ → Type 0 = λ pieces. ArePieces (rule_trees c.args.rules.now) pieces in
+    let P : List ℕ → Type 0 = λ pieces. AreTaskPieces (rule_trees c.args.rules.now) pieces in
     record {
       universe = over.universe;
       rules = over.rules;

@@ -4,7 +4,7 @@ use Rattle.lf_board.specs.Numbers.{AreNumbersBelow}
 use Rattle.lf_rounds.specs.Facts.{RoundFacts, RoundSeatFacts, task}
 use Rattle.lf_classes.specs.RowWords.{WordsLeq}
 use Rattle.lf_rounds.specs.Tasks.{AreReads, HoldRules, IsBelowLeast, IsTask, names}
-use Rattle.lf_rounds.specs.views.Noting.{AreMadeBy}
+use Rattle.lf_rounds.specs.views.Noting.{AreMadeBy, ArePlaced}
 use Rattle.lf_rounds.proofs.Allowed.{made_words}
 use Rattle.lf_rounds.proofs.Closing.{ends_round}
 use Rattle.std.proofs.lemmas.Bool.{not-true}
@@ -69,7 +69,8 @@ returns-clause-ends c =
 pub returns-clause-known : goal.returns-clause-known
 returns-clause-known c =
     let shown = c.self.view_is in
-    let names = c.self.invariant.names ∙ ap (λ (f : RoundFacts). names (task f)) shown in
+    let N : RoundFacts → Type 0 = λ f. ArePlaced (names (task f)) (task f).rules c.self.inside.known.names in
+    let names = subst N shown c.self.invariant.names in
     let R : RoundFacts → Type 0 = λ f. AreReads (rule_trees f.rules) f.reads in
     let read = subst R shown c.self.invariant.task.reads in
     let D : List (List ℕ) → Type 0 = λ reads. AreReads (rule_trees c.args.self.rules) reads in

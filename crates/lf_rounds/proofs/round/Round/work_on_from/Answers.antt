@@ -1,5 +1,7 @@
-use Rattle.std.proofs.Common.{◌<◌, ℕ, Option, [], sym, subst}
+use Rattle.std.proofs.Common.{◌≡◌, ◌<◌, ℕ, Option, [], ap, sym, ◌∙◌, subst}
 use Rattle.std.specs.Result.{is_ok}
+use Rattle.lf_rounds.specs.Facts.{RoundFacts, task}
+use Rattle.lf_rounds.specs.Tasks.{width}
 use Rattle.lf_rounds.specs.views.Working.{IsNext, left_of}
 use Rattle.lf_rounds.proofs.Noting.{noted_on, noted_pushed, noted_same}
 use Rattle.lf_rounds.proofs.Working.{claimed_done, fewer_left, next_after, none_more}
@@ -9,6 +11,7 @@ pub loop-next-init : goal.loop-next-init
 loop-next-init g c = record {
   used = c.requires.used;
   env = c.requires.env;
+  room = (let same : c.self.inside.width ≡ width (task c.args.self.now) = c.self.invariant.width ∙ ap (λ (f : RoundFacts). width (task f)) c.self.view_is in (c.in_ok-room.ensures.0 ∙ same, c.in_ok-room.ensures.1 ∙ same));
   noted = c.requires.noted;
   next = (c.requires.piece, c.requires.begins, [], none_more c.args.seat.now.me.0.board);
 }
@@ -40,6 +43,7 @@ loop-next-preserved g c =
     record {
       used = c.claim-next.ensures.used;
       env = c.in_ok-note.ensures.env;
+      room = c.work_on.ensures.room;
       noted = noted_same u.done x.done notes (claimed_done u x count c.claim-next.result c.claim-next.ensures.number) noted;
       next = next_after count v w u x c.in-Some.piece (subst N c.in-Some.is c.loop-next.invariant.next) c.work_on.ensures.board c.in_ok-note.ensures.done c.claim-next.result c.claim-next.ensures.number;
     }

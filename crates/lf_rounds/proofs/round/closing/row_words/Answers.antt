@@ -1,4 +1,4 @@
-use Rattle.std.proofs.Common.{◌≡◌, ℕ, zero, suc, ◌+◌, List, [], ◌∷◌, ◌++◌, take, drop, sym, ap, ◌∙◌, subst, add-one}
+use Rattle.std.proofs.Common.{◌≡◌, ℕ, zero, suc, ◌+◌, List, [], ◌∷◌, ◌++◌, take, drop, sym, ap, ◌∙◌, subst, arith, add-one}
 use mathlib.Core.Option.{some, some-injective, some-ne-none}
 use lib.ListN.{get_elem?}
 use Rattle.std.specs.Slots.{slots_items}
@@ -22,6 +22,11 @@ pub loop-k-preserved : goal.loop-k-preserved
 loop-k-preserved c =
     let P : List ℕ → Type 0 = λ l. AreWords l in
     record {
-      words = c.in_ok-push.ensures.ok ∙ ap (λ (l : List ℕ). l ++ c.word.result ∷ []) c.loop-k.invariant.words ∙ one_more (slots_items c.args.closed.now.words) c.loop-k.k c.word.result c.word.ensures;
-      fit = subst P (sym c.in_ok-push.ensures.ok) (word_more c.loop-k.words c.word.result c.loop-k.invariant.fit c.word.type_inv);
+      words = c.push_reserved.ensures.items ∙ ap (λ (l : List ℕ). l ++ c.word.result ∷ []) c.loop-k.invariant.words ∙ one_more (slots_items c.args.closed.now.words) c.loop-k.k c.word.result c.word.ensures;
+      fit = subst P (sym c.push_reserved.ensures.items) (word_more c.loop-k.words.items c.word.result c.loop-k.invariant.fit c.word.type_inv);
+      len = c.push_reserved.ensures.len ∙ ap (λ n. n + 1) c.loop-k.invariant.len;
+      room = omega (arith, c.push_reserved.ensures.capacity, c.loop-k.invariant.room);
     }
+
+pub push_reserved-requires : goal.push_reserved-requires
+push_reserved-requires c = omega (arith, c.loop-k.invariant.len, c.loop-k.invariant.room, c.loop-k-test.true)

@@ -5,7 +5,7 @@ use Rattle.lf_ast.specs.Rules.{rule_tree, rule_trees}
 use Rattle.lf_deps.proofs.OrderLaws.{ordered_below}
 use Rattle.lf_rounds.specs.Tasks.{is_recording}
 use Rattle.lf_rounds.proofs.Pieces.{filter_next, next_piece}
-use Rattle.lf_rounds.proofs.round.making.recording_rules.Goals as goal
+use Rattle.lf_rounds.proofs.round.making.recording_rules_by.Goals as goal
 
 pub add_recording-requires : goal.add_recording-requires
 add_recording-requires c =

@@ -3,19 +3,15 @@ use Rattle.std.proofs.lemmas.List.{length-map}
 use Rattle.lf_ast.specs.Labels.{Bytes}
 use Rattle.lf_ast.specs.Rules.{rule_trees}
 use Rattle.lf_classes.specs.RowWords.{word_count}
-use Rattle.lf_fix.proofs.Rounds.{start_is, start_names}
-use Rattle.lf_flow.specs.Reads.{names_of}
+use Rattle.lf_fix.proofs.Rounds.{start_is}
 use Rattle.lf_semantics.specs.ClassRows.{Sets}
-use Rattle.lf_semantics.specs.Environments.{IsEnvironmentOf, IsLeast, recorded_names}
+use Rattle.lf_semantics.specs.Environments.{IsEnvironmentOf, IsLeast}
 use Rattle.lf_semantics.specs.RowTable.{Environment}
 use Rattle.lf_rounds.specs.Tasks.{HoldRules}
 use Rattle.lf_rounds.specs.Words.{environment_of}
 use Rattle.lf_rounds.proofs.Bits.{bits_more, bits_most}
 use Rattle.lf_rounds.proofs.Standings.{least_at_end, none_due}
-use Rattle.lf_rounds.proofs.solving.solve_shared.Goals as goal
-
-pub first-requires-clause-names : goal.first-requires-clause-names
-first-requires-clause-names g c = ap names_of c.in_ok-env.ensures ∙ start_names c.args.universe.now (recorded_names (rule_trees c.args.rules.now))
+use Rattle.lf_rounds.proofs.solving.solve_shared_by.Goals as goal
 
 pub rounds-init : goal.rounds-init
 rounds-init g c =
@@ -34,8 +30,8 @@ rounds-smaller g c =
     let more = bits_more old next len c.rounds.invariant.standing.fit c.in_ok-next.ensures.standing.fit rises.above (subst N c.in_ok-next.ensures.start (c.is_last.ensures.more c.if-is_last.false)) in
     omega (arith, more, bits_most next, len)
 
-pub environment-requires : goal.environment-requires
-environment-requires g c =
+pub environment-requires-clause-words : goal.environment-requires-clause-words
+environment-requires-clause-words g c =
     let is = c.in_ok-next.ensures.standing in
     let named = c.in_ok-next.ensures.env.names in
     let env = c.behind_round.new.env in
