@@ -6,7 +6,7 @@ use Rattle.lf_checks.specs.Files.{File}
 
 -- what the patterns of all files may count
 abbrev pub most_in_all : ℕ
-most_in_all = 6000000
+most_in_all = 4250000
 
 -- so much is taken of each file for its patterns, which goes by the texts of the files alone
 abbrev pub AreTaken : List File → List ℕ → Type 0

@@ -9,7 +9,7 @@ use lf_base::Memory;
 use std::sync::atomic::{AtomicU64, Ordering};
 
 /// What the patterns of all files may count together.
-const MOST: u64 = 6_000_000;
+const MOST: u64 = 4_250_000;
 
 /// `Memory` where more was taken for these files than for those of a run may be.
 #[tactic(auto, using(crate::proofs::Found::taken_more, crate::proofs::Found::over_so))]
