@@ -9,22 +9,22 @@ use Rattle.lf_ast.specs.Rules.{rule_tree, rule_trees}
 use Rattle.lf_ast.specs.declared.rule.Rule.{Rule}
 use Rattle.lf_checks.specs.Files.{StandIn}
 use Rattle.lf_judge.specs.Judged.{file_of, files_of}
-use Rattle.lf_judge.specs.declared.source.SourceFile.{SourceFile}
+use Rattle.lf_judge.specs.declared.source.Source.{Source}
 
 pub map_twice : {A B D : Type 0} (g : B → D) (f : A → B) (xs : List A) → map g (map f xs) ≡ map (λ x. g (f x)) xs
 map_twice g f [] = refl
 map_twice g f (x ∷ xs) = ap (λ l. g (f x) ∷ l) (map_twice g f xs)
 
 -- a file at its place
-pub file_at : (files : List SourceFile) (k : ℕ) (s : SourceFile) → slice_get files k ≡ Some s → slice_get (files_of files) k ≡ Some (file_of s)
-file_at files k s e = slice_get-map file_of files k ∙ ap (λ (o : Option SourceFile). option_map file_of o) e
+pub file_at : (files : List Source) (k : ℕ) (s : Source) → slice_get files k ≡ Some s → slice_get (files_of files) k ≡ Some (file_of s)
+file_at files k s e = slice_get-map file_of files k ∙ ap (λ (o : Option Source). option_map file_of o) e
 
 -- what is read at a place
 pub read_at : {X : Type 0} (xs : List X) (k : ℕ) (x : X) → k < length xs → x ≡ get_or xs k x → slice_get xs k ≡ Some x
 read_at xs k x h e = slice_get-get_or xs k x h ∙ ap Some (sym e)
 
 -- the file of a rule is there
-pub stands_in : (files : List SourceFile) (rules : List Rule) (k : ℕ) (r : Rule) → StandIn (files_of files) (rule_trees rules) → slice_get rules k ≡ Some r → r.file < length files
+pub stands_in : (files : List Source) (rules : List Rule) (k : ℕ) (r : Rule) → StandIn (files_of files) (rule_trees rules) → slice_get rules k ≡ Some r → r.file < length files
 stands_in files rules k r stand at =
     let there = tree_at rules k r at in
     let file = stand (rule_tree r) (k, slice_get_within (rule_trees rules) k (rule_tree r) there, get_or_from_slice_get (rule_trees rules) k (rule_tree r) (rule_tree r) there) in

@@ -21,7 +21,7 @@ use Rattle.lf_built.proofs.part_rows.PartRows.TheSendSync as part_rows
 use Rattle.lf_worlds.specs.contracts.each_rule.Trials as Trials
 use Rattle.lf_checks.proofs.rule_dependency.RecordedNames.TheSendSync as recorded
 use Rattle.lf_report.proofs.line_index.Position.TheSendSync as position
-use Rattle.lf_judge.proofs.source.SourceFile.TheSendSync as source
+use Rattle.lf_judge.proofs.source.Source.TheSendSync as source
 use Rattle.lf_judge.specs.contracts.at_hand.AtHand as AtHand
 
 pub rule_sync : IsSync Rule.the_row

@@ -28,13 +28,13 @@ use Rattle.lf_trials.specs.Trials.{Shown}
 use Rattle.lf_trials.specs.Verdicts.{IsRuleVerdict, LabelVerdict, RuleVerdict, Empty, Labels}
 use Rattle.lf_trials.specs.Verdicts as verdict
 use Rattle.lf_judge.specs.Founds.{AreContents, Content, Rules, Refused, accepted}
-use Rattle.lf_judge.specs.declared.source.SourceFile.{SourceFile}
+use Rattle.lf_judge.specs.declared.source.Source.{Source}
 
 -- the files that were read
-abbrev pub file_of : SourceFile → File
+abbrev pub file_of : Source → File
 file_of source = record { name = source.name; bytes = source.bytes }
 
-abbrev pub files_of : List SourceFile → List File
+abbrev pub files_of : List Source → List File
 files_of sources = map file_of sources
 
 abbrev pub is_unresolved : LabelVerdict → Bool

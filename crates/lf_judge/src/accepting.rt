@@ -6,10 +6,10 @@ ghost use Rattle.lf_accept.specs.Taken.{FileTakes};
 ghost use Rattle.lf_judge.specs.Allowance.{AreAllowed, AreTaken};
 ghost use Rattle.lf_judge.specs.Founds.{AreContents, HasContent, rules_in};
 ghost use Rattle.lf_judge.specs.Judged.{file_of, files_of};
-ghost use Rattle.lf_judge.specs.declared.source.SourceFile.{SourceFile};
+ghost use Rattle.lf_judge.specs.declared.source.Source.{Source};
 ghost use Rattle.lf_judge.specs.views.Accepting.{IsFoundIn, IsOfContents, IsOfFiles, content_in, content_of, refusal_in, taken_in};
 
-use crate::SourceFile;
+use crate::Source;
 use crate::allowance::{TakenSoFar, allow};
 use crate::moving::taken_out;
 use lf_accept::{Acceptance, accept_counted};
@@ -52,11 +52,11 @@ pub struct Accepted {
 pub fn accept_all<R: Threads + Sync, G: Gate + Sync>(
     rt: &R,
     alloc: Global,
-    files: &Seq<SourceFile>,
+    files: &Seq<Source>,
     workers: u32,
     gate: &G,
 ) -> Result<Accepted, Memory>
-    requires room { (k : ℕ) (file : SourceFile) → slice_get files.now k ≡ Some file → length file.bytes ≤ 2 ^ 31 }
+    requires room { (k : ℕ) (file : Source) → slice_get files.now k ≡ Some file → length file.bytes ≤ 2 ^ 31 }
     requires few { length files.now < 2 ^ 32 }
     requires workers { (0 < workers) × (workers ≤ 64) }
     ensures found { IfOk result (IsOfFiles (files_of files.now)) }
@@ -71,11 +71,11 @@ pub fn accept_all<R: Threads + Sync, G: Gate + Sync>(
 fn accept_each<R: Threads + Sync, G: Gate + Sync>(
     rt: &R,
     alloc: Global,
-    files: &Seq<SourceFile>,
+    files: &Seq<Source>,
     workers: u32,
     gate: &G,
 ) -> Result<Seq<Counted>, Memory>
-    requires room { (k : ℕ) (file : SourceFile) → slice_get files.now k ≡ Some file → length file.bytes ≤ 2 ^ 31 }
+    requires room { (k : ℕ) (file : Source) → slice_get files.now k ≡ Some file → length file.bytes ≤ 2 ^ 31 }
     requires few { length files.now < 2 ^ 32 }
     requires workers { (0 < workers) × (workers ≤ 64) }
     ensures found { IfOk result (λ found. AreContents (files_of files.now) (map content_in found)) }
@@ -83,7 +83,7 @@ fn accept_each<R: Threads + Sync, G: Gate + Sync>(
 {
     let so_far = TakenSoFar::nothing();
     let accept_one = |number: u32| -> Result<Counted, Memory>
-        requires room { (k : ℕ) (file : SourceFile) → slice_get files.now k ≡ Some file → length file.bytes ≤ 2 ^ 31 }
+        requires room { (k : ℕ) (file : Source) → slice_get files.now k ≡ Some file → length file.bytes ≤ 2 ^ 31 }
         requires within { number < length files.now }
         ensures { IfOk result (IsFoundIn (files_of files.entry.now) number) }
     { accept_file(alloc, &so_far, files.get(number as usize), number) };
@@ -102,7 +102,7 @@ fn accept_each<R: Threads + Sync, G: Gate + Sync>(
 fn accept_file(
     alloc: Global,
     so_far: &TakenSoFar,
-    file: &SourceFile,
+    file: &Source,
     number: u32,
 ) -> Result<Counted, Memory>
     requires { length file.now.bytes ≤ 2 ^ 31 }

@@ -1,6 +1,6 @@
 //! What is at hand to tell of rules.
 
-use crate::SourceFile;
+use crate::Source;
 use lf_ast::Rule;
 use lf_base::Seq;
 use lf_checks::Checker;
@@ -14,7 +14,7 @@ pub const TELLING: u8 = 2;
 /// What is at hand to tell of the rules of files. Workers share it.
 #[derive(Drop)]
 pub struct AtHand<'a> {
-    pub files: &'a Seq<SourceFile>,
+    pub files: &'a Seq<Source>,
     pub rules: &'a Seq<Rule>,
     /// Where the names of the rules stand.
     pub names: &'a [Position],

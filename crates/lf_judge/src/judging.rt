@@ -10,14 +10,14 @@ ghost use Rattle.lf_judge.specs.Allowance.{AreAllowed};
 ghost use Rattle.lf_judge.specs.Founds.{Content};
 ghost use Rattle.lf_judge.specs.Judged.{IsReportOn, TellTheSame, files_of, files_told, labels_of};
 ghost use Rattle.lf_judge.specs.Limits.{EndsIn, AreWithinLimits, most_rules};
-ghost use Rattle.lf_judge.specs.declared.source.SourceFile.{SourceFile};
+ghost use Rattle.lf_judge.specs.declared.source.Source.{Source};
 ghost use Rattle.lf_judge.specs.views.Accepting.{IsOfFiles, refusal_in};
 ghost use Rattle.lf_judge.specs.views.Checking.{IsPutTogether};
 
 use crate::accepting::{Accepted, accept_all};
 use crate::measuring::{Measured, measure_with_names};
 use crate::telling::tell_rules;
-use crate::{JudgeEnd, SourceFile};
+use crate::{JudgeEnd, Source};
 use lf_base::{Gate, Memory, Seq, Text};
 use lf_checks::RecordedNames;
 use lf_classes::Universe;
@@ -35,12 +35,12 @@ use std::thread::Threads;
 pub fn judge<R: Threads + Sync, G: Gate + Sync>(
     rt: &R,
     alloc: Global,
-    files: &Seq<SourceFile>,
+    files: &Seq<Source>,
     labels: bool,
     workers: u32,
     gate: &G,
 ) -> Result<Report, JudgeEnd>
-    requires room { (k : ℕ) (file : SourceFile) → slice_get files.now k ≡ Some file → length file.bytes ≤ 2 ^ 31 }
+    requires room { (k : ℕ) (file : Source) → slice_get files.now k ≡ Some file → length file.bytes ≤ 2 ^ 31 }
     requires few { length files.now < 2 ^ 32 }
     requires workers { (0 < workers) × (workers ≤ 64) }
     ensures report { IfOk result (IsReportOn (files_of files.now) labels) }
@@ -58,7 +58,7 @@ pub fn judge<R: Threads + Sync, G: Gate + Sync>(
 fn judge_accepted<R: Threads + Sync, G: Gate + Sync>(
     rt: &R,
     alloc: Global,
-    files: &Seq<SourceFile>,
+    files: &Seq<Source>,
     accepted: &Accepted,
     labels: bool,
     workers: u32,
@@ -93,7 +93,7 @@ fn judge_accepted<R: Threads + Sync, G: Gate + Sync>(
 fn judge_within<R: Threads + Sync, G: Gate + Sync>(
     rt: &R,
     alloc: Global,
-    files: &Seq<SourceFile>,
+    files: &Seq<Source>,
     accepted: &Accepted,
     universe: &mut Universe,
     recorded: RecordedNames,
@@ -118,7 +118,7 @@ fn judge_within<R: Threads + Sync, G: Gate + Sync>(
 fn judge_prepared<R: Threads + Sync, G: Gate + Sync>(
     rt: &R,
     alloc: Global,
-    files: &Seq<SourceFile>,
+    files: &Seq<Source>,
     accepted: &Accepted,
     universe: &Universe,
     recorded: RecordedNames,
@@ -145,7 +145,7 @@ fn judge_prepared<R: Threads + Sync, G: Gate + Sync>(
 fn judge_solved<R: Threads + Sync, G: Gate + Sync>(
     rt: &R,
     alloc: Global,
-    files: &Seq<SourceFile>,
+    files: &Seq<Source>,
     accepted: &Accepted,
     universe: &Universe,
     env: &Env,
@@ -180,7 +180,7 @@ fn judge_solved<R: Threads + Sync, G: Gate + Sync>(
 /// The report, put together of what is told of the rules and of what stands in the files.
 fn report_of(
     alloc: Global,
-    files: &Seq<SourceFile>,
+    files: &Seq<Source>,
     accepted: &Accepted,
     universe: &Universe,
     rules: Seq<RuleReport>,
@@ -202,7 +202,7 @@ fn report_of(
 /// What is told of each file: its name and its bytes, and why it is refused, where it is.
 fn told_files(
     alloc: Global,
-    files: &Seq<SourceFile>,
+    files: &Seq<Source>,
     refusals: &[Option<Refused>],
 ) -> Result<Seq<FileReport>, Memory>
     requires { length refusals.now ≡ length files.now }
@@ -225,7 +225,7 @@ fn refusal_at(refusals: &[Option<Refused>], number: usize) -> Option<Refused>
 }
 
 /// What is told of a file.
-fn told_file(file: &SourceFile, refusal: Option<Refused>) -> Result<FileReport, Memory>
+fn told_file(file: &Source, refusal: Option<Refused>) -> Result<FileReport, Memory>
     ensures { IfOk result (λ told. told ≡ record { name = file.now.name; source = file.now.bytes; refusal = refusal }) }
 {
     let name = file.name.copy()?;

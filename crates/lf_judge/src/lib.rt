@@ -20,4 +20,4 @@ mod wording;
 pub use judge_end::JudgeEnd;
 pub use judging::{judge, one_report};
 pub use measuring::measure;
-pub use source::SourceFile;
+pub use source::Source;

@@ -7,7 +7,7 @@ ghost use Rattle.lf_checks.specs.Files.{File, StandIn};
 ghost use Rattle.lf_judge.specs.Judged.{files_of};
 ghost use Rattle.lf_judge.specs.views.NamePositions.{AreNamePositions, IsPositionIn};
 
-use crate::SourceFile;
+use crate::Source;
 use lf_ast::Rule;
 use lf_base::{Memory, Seq};
 use lf_report::{Position, position_from};
@@ -16,7 +16,7 @@ use std::alloc::Global;
 /// The positions of the names of rules, each at the number of its rule. From one name to the next of the same file only the bytes between are gone through.
 pub fn name_positions(
     alloc: Global,
-    files: &Seq<SourceFile>,
+    files: &Seq<Source>,
     rules: &Seq<Rule>,
 ) -> Result<Vec<Position>, Memory>
     requires { StandIn (files_of files.now) (rule_trees rules.now) }

@@ -4,7 +4,7 @@ use lf_base::{Seq, Text};
 
 /// A file as it was read: its name, as it was asked for, and its bytes.
 #[derive(Debug, Drop)]
-pub struct SourceFile {
+pub struct Source {
     pub name: Text,
     pub bytes: Seq<u8>,
 }

@@ -15,7 +15,7 @@ ghost use Rattle.lf_judge.specs.views.Checking.{TellsRules};
 ghost use Rattle.lf_judge.specs.views.RulesFound.{AreFoundAt, IsFoundAt, NameFirsts};
 ghost use Rattle.lf_judge.specs.views.NamePositions.{AreNamePositions};
 
-use crate::SourceFile;
+use crate::Source;
 use crate::at_hand::{AtHand, TELLING};
 use crate::findings::findings_and_emptiness;
 use crate::firsts::{first_at, firsts_of};
@@ -38,7 +38,7 @@ use std::thread::Threads;
 pub fn tell_rules<R: Threads + Sync, G: Gate + Sync>(
     rt: &R,
     alloc: Global,
-    files: &Seq<SourceFile>,
+    files: &Seq<Source>,
     rules: &Seq<Rule>,
     universe: &Universe,
     env: &Env,
@@ -67,7 +67,7 @@ pub fn tell_rules<R: Threads + Sync, G: Gate + Sync>(
 fn tell_named<R: Threads + Sync, G: Gate + Sync>(
     rt: &R,
     alloc: Global,
-    files: &Seq<SourceFile>,
+    files: &Seq<Source>,
     rules: &Seq<Rule>,
     names: &[Position],
     universe: &Universe,

@@ -11,7 +11,7 @@ use Rattle.lf_laws.proofs.Slices.{zip_push}
 use Rattle.lf_ast.specs.Labels.{Bytes}
 use Rattle.lf_checks.specs.Files.{File}
 use Rattle.lf_judge.specs.Judged.{file_of, files_of}
-use Rattle.lf_judge.specs.declared.source.SourceFile.{SourceFile}
+use Rattle.lf_judge.specs.declared.source.Source.{Source}
 use Rattle.lf_gen.specs.Generated.{generated}
 use Rattle.lf_words.specs.Grammar.{Asks}
 use Rattle.lf_words.specs.declared.options.Options.{Options}
@@ -44,14 +44,14 @@ short_more files file are fits = record {
 }
 
 -- the first files of these names were read
-pub record AreGatheredSoFar (held : Bytes → Option Bytes) (names : List Bytes) (k : ℕ) (sources : List SourceFile) (before : ℕ) : Type 0 where
+pub record AreGatheredSoFar (held : Bytes → Option Bytes) (names : List Bytes) (k : ℕ) (sources : List Source) (before : ℕ) : Type 0 where
   pub read : AllZip (IsReadFile held) (take k names) (files_of sources)
   pub short : AreShort (files_of sources)
   pub total : byte_count (files_of sources) ≡ before
   pub count : length sources ≡ k
 
 module _ (held : Bytes → Option Bytes) (names : List Bytes) where
-  pub one_gathered : (k : ℕ) (name : Bytes) (sources later : List SourceFile) (source : SourceFile) (before count : ℕ) → k < length names → name ≡ slice_index_or names k name → AreGatheredSoFar held names k sources before
+  pub one_gathered : (k : ℕ) (name : Bytes) (sources later : List Source) (source : Source) (before count : ℕ) → k < length names → name ≡ slice_index_or names k name → AreGatheredSoFar held names k sources before
       → later ≡ sources ++ source ∷ [] → IsReadFile held name (file_of source) → length source.bytes ≡ count → count ≤ room_behind before → AreGatheredSoFar held names (k + 1) later (before + count)
   one_gathered k name sources later source before count less is so_far grown read counted fits =
       let files : files_of later ≡ files_of sources ++ file_of source ∷ [] = ap files_of grown ∙ map-append file_of sources (source ∷ []) in
@@ -67,11 +67,11 @@ module _ (held : Bytes → Option Bytes) (names : List Bytes) where
         count = ap length grown ∙ omega (arith, so_far.count, added sources source);
       }
     where
-      added : (xs : List SourceFile) (x : SourceFile) → length (xs ++ x ∷ []) ≡ length xs + 1
+      added : (xs : List Source) (x : Source) → length (xs ++ x ∷ []) ≡ length xs + 1
       added [] x = refl
       added (y ∷ xs) x = omega (arith, added xs x)
 
-  pub reached : (k : ℕ) (name : Bytes) (sources : List SourceFile) (before : ℕ) → k < length names → name ≡ slice_index_or names k name → AreGatheredSoFar held names k sources before → AreReadBefore held names k
+  pub reached : (k : ℕ) (name : Bytes) (sources : List Source) (before : ℕ) → k < length names → name ≡ slice_index_or names k name → AreGatheredSoFar held names k sources before → AreReadBefore held names k
   reached k name sources before less is so_far = record { name = name; is_named = read_at names k name less is; before = files_of sources; are_read = so_far.read; are_short = so_far.short }
 
   -- which limit is passed behind files of so many bytes
@@ -83,7 +83,7 @@ module _ (held : Bytes → Option Bytes) (names : List Bytes) where
       by false is = step 3 16777217 (inr (grind (arith, nat_tests, is), refl, refl))
 
   -- why the next file isn't read
-  pub why_next : (left : Option Bytes) (k : ℕ) (name : Bytes) (sources : List SourceFile) (before opens mid later faults calm rose : ℕ) (end : ReadEnd) → k < length names → name ≡ slice_index_or names k name → length names ≤ most_files
+  pub why_next : (left : Option Bytes) (k : ℕ) (name : Bytes) (sources : List Source) (before opens mid later faults calm rose : ℕ) (end : ReadEnd) → k < length names → name ≡ slice_index_or names k name → length names ≤ most_files
       → AreGatheredSoFar held names k sources before → mid ≡ opens + k → (end ≢ Memory → later ≡ mid + 1) → (mid ≤ later) × (later ≤ mid + 1) → faults ≡ 0 → calm ≡ 0 → (end ≡ Failed → calm < rose) → (end ≢ Failed → rose ≡ calm)
       → (end ≡ TooLong → (bytes : Bytes) × AreAsTold (held name) bytes × (room_behind before < length bytes) × AreAsTold left (drop (room_behind before + 1) bytes))
       → (file : ℕ) → file ≡ k → (opened : ℕ) × (later ≡ opens + opened) × IsWhyUnread held left names faults rose opened (unread_by file before end)
@@ -119,24 +119,24 @@ module _ (held : Bytes → Option Bytes) (names : List Bytes) where
 
 -- ---- the files that options ask for
 
-each_at : (P : File → Type 0) (sources : List SourceFile) → AllByRecursion P (files_of sources) → (k : ℕ) (source : SourceFile) → slice_get sources k ≡ Some source → P (file_of source)
+each_at : (P : File → Type 0) (sources : List Source) → AllByRecursion P (files_of sources) → (k : ℕ) (source : Source) → slice_get sources k ≡ Some source → P (file_of source)
 each_at P [] all k source e = absurd cc
-each_at P (s ∷ sources) all zero source e = (let same : s ≡ source = cc in subst (λ (x : SourceFile). P (file_of x)) same all.0)
+each_at P (s ∷ sources) all zero source e = (let same : s ≡ source = cc in subst (λ (x : Source). P (file_of x)) same all.0)
 each_at P (s ∷ sources) all (suc k) source e = each_at P sources all.1 k source e
 
 -- each file is shorter than what is judged may be
-pub short_each : (sources : List SourceFile) → AreShort (files_of sources) → (k : ℕ) (source : SourceFile) → slice_get sources k ≡ Some source → length source.bytes ≤ most_bytes
+pub short_each : (sources : List Source) → AreShort (files_of sources) → (k : ℕ) (source : Source) → slice_get sources k ≡ Some source → length source.bytes ≤ most_bytes
 short_each sources short = each_at (λ (f : File). length f.bytes ≤ most_bytes) sources short.each
 
 few_files : (held : Bytes → Option Bytes) (options : Options) (files : List File) → AreGathered held options files → length files ≤ most_files
 few_files held (Lint workers json labels names) files are = omega (arith, are.few, AllZip-long (IsReadFile held) names files are.are_files)
 few_files held (Gen n) files are = let one : length files ≡ 1 = ap length are.are_files in omega (arith, one)
 
-pub few_sources : (held : Bytes → Option Bytes) (options : Options) (sources : List SourceFile) → AreGathered held options (files_of sources) → length sources ≤ most_files
+pub few_sources : (held : Bytes → Option Bytes) (options : Options) (sources : List Source) → AreGathered held options (files_of sources) → length sources ≤ most_files
 few_sources held options sources are = omega (arith, few_files held options (files_of sources) are, length-map sources file_of)
 
 -- the generated file alone
-pub gen_gathered : (held : Bytes → Option Bytes) (words : List Bytes) (options : Options) (n : ℕ) (source : SourceFile) (sources : List SourceFile) → options ≡ Gen n → Asks words options → source.name ≡ codes "gen.yml" → source.bytes ≡ generated n
+pub gen_gathered : (held : Bytes → Option Bytes) (words : List Bytes) (options : Options) (n : ℕ) (source : Source) (sources : List Source) → options ≡ Gen n → Asks words options → source.name ≡ codes "gen.yml" → source.bytes ≡ generated n
     → sources ≡ source ∷ [] → AreGathered held options (files_of sources)
 gen_gathered held words options n source sources is asks name bytes alone =
     let within = gen_within words n (subst (Asks words) is asks) in

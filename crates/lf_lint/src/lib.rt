@@ -12,7 +12,7 @@ mod writing;
 
 pub use lf_accept::accept;
 pub use lf_gen::gen_text;
-pub use lf_judge::{JudgeEnd, SourceFile, judge, measure};
+pub use lf_judge::{JudgeEnd, Source, judge, measure};
 pub use lf_report::{json_of, text_of};
 pub use lf_words::{Options, WordFault, read_words};
 pub use linting::lint;

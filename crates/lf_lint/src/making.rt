@@ -14,7 +14,7 @@ use crate::output::{Output, render, with_labels, worker_count};
 use crate::sources::sources_of;
 use crate::unreported::Unreported;
 use lf_base::{Files, Gate, Memory, Seq, Text};
-use lf_judge::{SourceFile, judge};
+use lf_judge::{Source, judge};
 use lf_report::Report;
 use lf_words::Options;
 use std::alloc::Global;
@@ -54,7 +54,7 @@ fn make_of<R: Threads + Sync, G: Gate + Sync>(
     rt: &R,
     alloc: Global,
     options: &Options,
-    sources: &Seq<SourceFile>,
+    sources: &Seq<Source>,
     gate: &G,
 ) -> Result<FinishedReport, Unreported>
     requires short { AreShort (files_of sources.now) }

@@ -13,7 +13,7 @@ use crate::reading::{ReadEnd, read_whole};
 use crate::unreported::Unreported;
 use lf_base::{Files, Memory, Seq, Text};
 use lf_gen::gen_text;
-use lf_judge::SourceFile;
+use lf_judge::Source;
 use lf_words::Options;
 use std::alloc::Global;
 
@@ -38,7 +38,7 @@ pub fn sources_of<F: Files>(
     alloc: Global,
     options: &Options,
     files: &mut F,
-) -> Result<Seq<SourceFile>, Unreported>
+) -> Result<Seq<Source>, Unreported>
     requires calm { F.faults files.old ≡ 0 }
     requires opens { F.opens files.old ≤ 2 ^ 31 }
     requires asked { (words : List (List ℕ)) × Asks words options.now }
@@ -61,7 +61,7 @@ pub fn sources_of<F: Files>(
 }
 
 /// The generated file of `n` rules.
-fn generated_source(alloc: Global, n: u32) -> Result<SourceFile, Memory>
+fn generated_source(alloc: Global, n: u32) -> Result<Source, Memory>
     requires some { 1 ≤ n }
     requires most { n ≤ 4000 }
     ensures name { IfOk result (λ source. source.name ≡ codes "gen.yml") }
@@ -70,7 +70,7 @@ fn generated_source(alloc: Global, n: u32) -> Result<SourceFile, Memory>
     let text = gen_text(alloc, n)?;
     let name = Text::of(alloc, "gen.yml")?;
     let bytes = Seq::of(alloc, text.as_str().as_bytes())?;
-    Ok(SourceFile { name, bytes })
+    Ok(Source { name, bytes })
 }
 
 /// The files of these names, each read whole, in their order.
@@ -78,7 +78,7 @@ fn read_files<F: Files>(
     alloc: Global,
     names: &[Text],
     files: &mut F,
-) -> Result<Seq<SourceFile>, Unreported>
+) -> Result<Seq<Source>, Unreported>
     requires calm { F.faults files.old ≡ 0 }
     requires opens { F.opens files.old ≤ 2 ^ 31 }
 
@@ -106,7 +106,7 @@ fn read_each<F: Files>(
     alloc: Global,
     names: &[Text],
     files: &mut F,
-    sources: &mut Seq<SourceFile>,
+    sources: &mut Seq<Source>,
 ) -> Result<(), Unreported>
     requires calm { F.faults files.old ≡ 0 }
     requires opens { F.opens files.old ≤ 2 ^ 31 }
@@ -136,13 +136,13 @@ fn read_next<F: Files>(
     files: &mut F,
     name: &Text,
     before: u32,
-    sources: &mut Seq<SourceFile>,
+    sources: &mut Seq<Source>,
 ) -> Result<u32, ReadEnd>
     requires calm { F.faults files.old ≡ 0 }
     requires opens { F.opens files.old < 2 ^ 32 }
     requires within { before ≤ most_bytes_in_all }
 
-    ensures read { IfOk result (λ count. (source : SourceFile) × (sources.new ≡ sources.old ++ source ∷ []) × IsReadFile (F.held files.old) name.now (file_of source) × (length source.bytes ≡ count)) }
+    ensures read { IfOk result (λ count. (source : Source) × (sources.new ≡ sources.old ++ source ∷ []) × IsReadFile (F.held files.old) name.now (file_of source) × (length source.bytes ≡ count)) }
     ensures within { IfOk result (λ count. count ≤ room_behind before) }
     ensures failed { result ≡ Err read_end.Failed → F.faults files.old < F.faults files.new }
     ensures too_long { result ≡ Err read_end.TooLong → (bytes : List ℕ) × AreAsTold (F.held files.old name.now) bytes × (room_behind before < length bytes) × AreAsTold (F.left files.new) (drop (room_behind before + 1) bytes) }
@@ -156,7 +156,7 @@ fn read_next<F: Files>(
     let name_of_file = name.copy()?;
     let bytes = read_whole(alloc, files, name, most)?;
     let count = bytes.len() as u32;
-    sources.push(SourceFile {
+    sources.push(Source {
         name: name_of_file,
         bytes,
     })?;

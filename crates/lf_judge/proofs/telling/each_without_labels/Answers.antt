@@ -3,7 +3,7 @@ use Rattle.std.proofs.Crossing.{crosses}
 use Rattle.lf_flow.proofs.env.Env.TheSendSync as env
 use Rattle.lf_checks.proofs.rule_dependency.RecordedNames.TheSendSync as recorded
 use Rattle.lf_base.proofs.seq.Seq.TheSendSync as seq
-use Rattle.lf_judge.proofs.source.SourceFile.TheSendSync as source
+use Rattle.lf_judge.proofs.source.Source.TheSendSync as source
 use Rattle.lf_report.proofs.line_index.Position.TheSendSync as position
 use Rattle.lf_classes.proofs.universe.Universe.TheSendSync as universe
 use Rattle.std.proofs.option.Option.TheSendSync as option
