@@ -1,6 +1,6 @@
 //! What is known of the labels of a rule, as a report tells it.
 ghost use Rattle.std.specs.List.{list_any};
-ghost use Rattle.std.specs.Prelude.{◌≡◌, ◌<◌, Some, true, length, map, slice_get, IfOk};
+ghost use Rattle.std.specs.Prelude.{◌≡◌, true, map, IfOk};
 ghost use Rattle.lf_ast.specs.Rules.{RuleTree};
 ghost use Rattle.lf_worlds.specs.views.Told.{label_verdict, rule_verdict};
 ghost use Rattle.lf_judge.specs.Judged.{has_unresolved, is_unresolved, unresolved_told, verdict_told, verdicts_told};
