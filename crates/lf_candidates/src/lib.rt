@@ -19,5 +19,5 @@ pub use given::{LabelTexts, unless_lost};
 pub use labels::label_names;
 pub use named_row::NamedRow;
 pub use names::{is_recorded, is_scraped_name, name_for, passes_as_name};
-pub use passing::passes_in;
+pub use passing::{known_pass, passes_in};
 pub use trial::Trial;

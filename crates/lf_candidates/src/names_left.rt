@@ -17,7 +17,8 @@ use std::alloc::Global;
 /// The number of the label `__name__`.
 const METRIC: u32 = 0;
 
-/// A row without classes of `__name__` whose texts fail the matchers on it. It still has each whose text passes them; what 'any other text' stands for isn't looked up.
+/// A row that has each class of `__name__` whose text passes the matchers on it. It lacks those that fail a pattern which the universe has cached, and those that a `!=` excludes; no clause says so,
+/// since it saves time alone: `is_name` asks the matchers of each class that is left. What 'any other text' stands for isn't looked up.
 ///
 /// So a pattern is asked once for all classes of a selector, and a name that one of a thousand `!=` excludes isn't compared with each of them.
 pub fn names_left(alloc: Global, universe: &Universe, matchers: &[Matcher]) -> Result<Row, Memory>

@@ -21,7 +21,7 @@ pub fn passes_in(
     ensures { IfOk result (λ found. found ≡ passes matcher.now.op matcher.now.value text.now) }
 {
     if takes_pattern(matcher.op) {
-        match cached(universe, matcher, text.as_str()) {
+        match known_pass(universe, matcher, text.as_str()) {
             Some(found) => Ok(found),
             None => passes(alloc, matcher, text),
         }
@@ -30,8 +30,8 @@ pub fn passes_in(
     }
 }
 
-/// Whether a matcher passes a text, if the text is a class and the universe has cached it.
-fn cached(universe: &Universe, matcher: &Matcher, text: &str) -> Option<bool>
+/// Whether a matcher with a pattern passes a text, if the text is a class of the matcher's label and the universe has cached it. No pattern is read.
+pub fn known_pass(universe: &Universe, matcher: &Matcher, text: &str) -> Option<bool>
     ensures { IfSome result (λ found. found ≡ passes matcher.now.op matcher.now.value text.now) }
 {
     let label = universe.label_of(matcher.label.as_str());

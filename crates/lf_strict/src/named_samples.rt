@@ -11,6 +11,7 @@ use crate::sample_set::SampleSet;
 use crate::selecting::text_of;
 use lf_ast::{LabelSet, Matcher};
 use lf_base::{Memory, Seq, Text};
+use lf_classes::Universe;
 use std::alloc::Global;
 use std::collections::BTreeMap;
 use std::marker::Model;
@@ -75,6 +76,7 @@ impl NamedSamples {
     pub fn select_named(
         &self,
         alloc: Global,
+        universe: Option<&Universe>,
         sought: &Text,
         name: &Option<Text>,
         matchers: &[Matcher],
@@ -84,7 +86,7 @@ impl NamedSamples {
     {
         let _count = self.by_name.len();
         match self.by_name.get(sought.as_str()) {
-            Some(samples) => samples.select(alloc, name, matchers),
+            Some(samples) => samples.select(alloc, universe, name, matchers),
             None => Ok(Seq::new(alloc)),
         }
     }

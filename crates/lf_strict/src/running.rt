@@ -14,6 +14,7 @@ use crate::stepping::step;
 use crate::store::Store;
 use lf_ast::{Expr, LabelSet, Rule};
 use lf_base::{Memory, Seq};
+use lf_classes::Universe;
 use std::alloc::Global;
 
 /// The samples that are stored after steps of rules over series, in ascending order of their pairs of a label and its text, or None where a step is. Each step names a rule by
@@ -32,7 +33,7 @@ pub fn strict_run(
     // Over scraped series these samples are what a world has after a run whose steps give what the rules strictly give.
     ensures world { AreScraped (rule_trees rules.now) series.now → IfOk result (λ told. IfSome told (λ V. (world : World (rule_trees rules.now)) × (world.series ≡ series.now) × IsStrictRun series.now (rules_at (rule_trees rules.now) steps.now) V world.steps)) }
 {
-    let mut store = Store::of(alloc, series)?;
+    let mut store = Store::of(alloc, None, series)?;
     if run_steps(alloc, &mut store, rules.as_slice(), steps.as_slice())? {
         Ok(Some(store.in_order(alloc)?))
     } else {
@@ -41,9 +42,11 @@ pub fn strict_run(
 }
 
 /// What an expression strictly gives over the samples that are stored after steps of rules over series, as `strict` tells it over what `strict_run` tells. It is None where a
-/// step is, too. The stored samples are looked at where they are, and neither listed nor stored once more.
+/// step is, too. The stored samples are looked at where they are, and neither listed nor stored once more. A pattern that the universe has cached isn't read
+/// for texts that are its classes.
 pub fn strict_after(
     alloc: Global,
+    universe: &Universe,
     series: &Seq<LabelSet>,
     rules: &Seq<Rule>,
     steps: &Seq<u32>,
@@ -52,7 +55,7 @@ pub fn strict_after(
     requires { (k : ℕ) → Contains steps.now k → k < length rules.now }
     ensures { IfOk result (IsAnswerAfter series.now (rules_at (rule_trees rules.now) steps.now) (tree expr.now)) }
 {
-    let mut store = Store::of(alloc, series)?;
+    let mut store = Store::of(alloc, Some(universe), series)?;
     if run_steps(alloc, &mut store, rules.as_slice(), steps.as_slice())? {
         evaluate(alloc, &store, expr)
     } else {

@@ -9,6 +9,7 @@ ghost use Rattle.lf_strict.specs.views.Selected.{has_name};
 use crate::selecting::{has_name, passing_each};
 use lf_ast::{LabelSet, Matcher};
 use lf_base::{Memory, Seq, Text};
+use lf_classes::Universe;
 use std::alloc::Global;
 use std::collections::BTreeSet;
 use std::marker::Model;
@@ -65,13 +66,14 @@ impl SampleSet {
     pub fn select(
         &self,
         alloc: Global,
+        universe: Option<&Universe>,
         name: &Option<Text>,
         matchers: &[Matcher],
     ) -> Result<Seq<LabelSet>, Memory>
         ensures { IfOk result (λ set. InOrder (IsSet (AreSelected self.now name.now matchers.now)) (Some set)) }
     {
         let kept = self.named(alloc, name)?;
-        Ok(Seq::from_vec(passing_each(alloc, kept, matchers)?))
+        Ok(Seq::from_vec(passing_each(alloc, universe, kept, matchers)?))
     }
 
     /// The samples of this name, or all of them.

@@ -1,5 +1,5 @@
 //! The samples that a selector gives.
-ghost use Rattle.std.specs.Prelude.{◌≡◌, ◌&&◌, IfOk, Some};
+ghost use Rattle.std.specs.Prelude.{◌≡◌, ◌&&◌, IfOk, IfSome, Some};
 ghost use Rattle.std.specs.List.{filter};
 ghost use Rattle.std.specs.Str.{bytes_eq};
 ghost use Rattle.lf_pattern.specs.Matching.{is_read, matches};
@@ -11,12 +11,16 @@ ghost use Rattle.lf_strict.specs.views.Selected.{as_wanted, has_name, passes_by,
 
 use lf_ast::{LabelSet, MatchOp, Matcher};
 use lf_base::{Memory, Seq, Text};
+use lf_candidates::known_pass;
+use lf_classes::Universe;
+use lf_nodes::takes_pattern;
 use lf_pattern::{Pattern, PatternError};
 use std::alloc::Global;
 
 /// The samples that have the name and pass the matchers, in ascending order.
 pub fn select(
     alloc: Global,
+    universe: Option<&Universe>,
     stored: &[LabelSet],
     name: &Option<Text>,
     matchers: &[Matcher],
@@ -25,25 +29,82 @@ pub fn select(
     ensures { IfOk result (λ set. InOrder (IsSet (AreSelected stored.now name.now matchers.now)) (Some set)) }
 {
     let kept = named(alloc, stored, name)?;
-    Ok(Seq::from_vec(passing_each(alloc, kept, matchers)?))
+    Ok(Seq::from_vec(passing_each(alloc, universe, kept, matchers)?))
 }
 
 /// Those of the samples that pass each matcher.
 pub fn passing_each(
     alloc: Global,
+    universe: Option<&Universe>,
     mut kept: Vec<LabelSet>,
     matchers: &[Matcher],
 ) -> Result<Vec<LabelSet>, Memory>
     ensures { IfOk result (λ passed. passed.items ≡ passing matchers.now kept.items) }
 {
     for matcher in matchers {
-        kept = passing(alloc, matcher, kept)?;
+        kept = passing(alloc, universe, matcher, kept)?;
     }
     Ok(kept)
 }
 
-/// The samples that pass a matcher.
+/// The samples that pass a matcher. Where a universe knows of the text of each whether it does, no pattern is read.
 fn passing(
+    alloc: Global,
+    universe: Option<&Universe>,
+    matcher: &Matcher,
+    samples: Vec<LabelSet>,
+) -> Result<Vec<LabelSet>, Memory>
+    ensures { IfOk result (λ kept. kept.items ≡ filter (passes_by matcher.now) samples.items) }
+{
+    match known_passing(alloc, universe, matcher, samples.as_slice())? {
+        Some(kept) => Ok(kept),
+        None => passing_by_operator(alloc, matcher, samples),
+    }
+}
+
+/// The samples that pass a matcher with a pattern, if a universe knows it of the text of each.
+fn known_passing(
+    alloc: Global,
+    universe: Option<&Universe>,
+    matcher: &Matcher,
+    samples: &[LabelSet],
+) -> Result<Option<Vec<LabelSet>>, Memory>
+    ensures { IfOk result (λ found. IfSome found (λ kept. kept.items ≡ filter (passes_by matcher.now) samples.now)) }
+{
+    match universe {
+        Some(universe) => {
+            if takes_pattern(matcher.op) {
+                passing_in(alloc, universe, matcher, samples)
+            } else {
+                Ok(None)
+            }
+        }
+        None => Ok(None),
+    }
+}
+
+/// The samples that pass a matcher, if the universe knows it of the text of each.
+fn passing_in(
+    alloc: Global,
+    universe: &Universe,
+    matcher: &Matcher,
+    samples: &[LabelSet],
+) -> Result<Option<Vec<LabelSet>>, Memory>
+    ensures { IfOk result (λ found. IfSome found (λ kept. kept.items ≡ filter (passes_by matcher.now) samples.now)) }
+{
+    let mut kept = Vec::new(alloc);
+    for sample in samples {
+        match known_pass(universe, matcher, text_of(sample, matcher.label.as_str())) {
+            Some(true) => kept.push(sample.copy()?)?,
+            Some(false) => {}
+            None => return Ok(None),
+        }
+    }
+    Ok(Some(kept))
+}
+
+/// The samples that pass a matcher, by its operator. A pattern is read.
+fn passing_by_operator(
     alloc: Global,
     matcher: &Matcher,
     samples: Vec<LabelSet>,

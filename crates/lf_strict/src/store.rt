@@ -14,20 +14,23 @@ use crate::selecting::{named, passing_each, select};
 use crate::signature::push_each;
 use lf_ast::{LabelSet, Matcher, selected_name};
 use lf_base::{Memory, Seq, Text};
+use lf_classes::Universe;
 use std::alloc::Global;
 use std::marker::Model;
 
 /// How many samples are gone through one by one, before the others are kept by their names.
 const FEW: usize = 8;
 
-/// The stored samples, of which equal ones count once. Most worlds have a few, which are looked through, and no more. Any others are found by their metric names.
+/// The stored samples, of which equal ones count once. Most worlds have a few, which are looked through, and no more. Any others are found by their metric names. Where a
+/// universe is at hand, of texts that are its classes it is looked up there whether they pass a pattern.
 #[derive(Drop)]
-pub struct Store {
+pub struct Store<'a> {
+    universe: Option<&'a Universe>,
     few: Vec<LabelSet>,
     others: NamedSamples,
 }
 
-impl Model for Store {
+impl<'a> Model for Store<'a> {
     ghost use Rattle.std.specs.Prelude.{List, ◌++◌};
     ghost use Rattle.std.specs.Coded.{coded_ℕ, coded_list};
     ghost use Rattle.std.specs.FinMap as map;
@@ -40,22 +43,27 @@ impl Model for Store {
     ghost view = { λ store. store.few.items ++ store.others };
 }
 
-impl Store {
+impl<'a> Store<'a> {
     /// No sample.
-    fn new(alloc: Global) -> Store
+    fn new(alloc: Global, universe: Option<&'a Universe>) -> Store<'a>
         ensures { result ≡ [] }
     {
         Store {
+            universe,
             few: Vec::new(alloc),
             others: NamedSamples::new(alloc),
         }
     }
 
-    /// These samples, of which equal ones count once.
-    pub fn of(alloc: Global, samples: &Seq<LabelSet>) -> Result<Store, Memory>
+    /// These samples, of which equal ones count once. With a universe, if one is at hand, whose rules have patterns that it has cached.
+    pub fn of(
+        alloc: Global,
+        universe: Option<&'a Universe>,
+        samples: &Seq<LabelSet>,
+    ) -> Result<Store<'a>, Memory>
         ensures { IfOk result (AreSame samples.now) }
     {
-        let mut store = Store::new(alloc);
+        let mut store = Store::new(alloc, universe);
         store.add(alloc, samples.as_slice())?;
         Ok(store)
     }
@@ -115,7 +123,7 @@ impl Store {
             Some(sought) => self.select_named(alloc, sought, name, matchers),
             None => {
                 let all = self.in_order(alloc)?;
-                select(alloc, all.as_slice(), name, matchers)
+                select(alloc, self.universe, all.as_slice(), name, matchers)
             }
         }
     }
@@ -132,8 +140,10 @@ impl Store {
         ensures { IfOk result (λ set. InOrder (IsSet (AreSelected self.now name.now matchers.now)) (Some set)) }
     {
         let kept = named(alloc, self.few.as_slice(), name)?;
-        let mut found = passing_each(alloc, kept, matchers)?;
-        let others = self.others.select_named(alloc, sought, name, matchers)?;
+        let mut found = passing_each(alloc, self.universe, kept, matchers)?;
+        let others = self
+            .others
+            .select_named(alloc, self.universe, sought, name, matchers)?;
         take_each(&mut found, others)?;
         Ok(together(found))
     }

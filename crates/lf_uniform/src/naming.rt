@@ -10,7 +10,7 @@ ghost use Rattle.lf_uniform.specs.views.Naming.{said_all, said_by, said_one, uns
 
 use crate::setting::Setting;
 use lf_ast::walk::{Parts, Visitor, visit};
-use lf_ast::{Expr, Matcher, is_scalar, selected_name};
+use lf_ast::{Expr, Matcher, selected_name};
 use lf_base::{Memory, Text};
 use lf_classes::TextSet;
 use lf_deps::{Sources, is_scalar_call};

@@ -161,6 +161,7 @@ impl<'a> RuleTrials<'a> {
         let trial = self.built.trial(alloc, label, presence)?;
         world_if_shown(
             alloc,
+            self.universe,
             self.rules,
             self.number,
             name_of(self.universe, self.names, label),
@@ -183,6 +184,7 @@ impl<'a> RuleTrials<'a> {
         let trial = self.uniform.trial(alloc, label, presence)?;
         world_if_shown(
             alloc,
+            self.universe,
             self.rules,
             self.number,
             name_of(self.universe, self.names, label),

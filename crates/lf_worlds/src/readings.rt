@@ -1,5 +1,5 @@
 //! What rules read, as the trials of all rules share it.
-ghost use Rattle.std.specs.Prelude.{◌≡◌, IfOk};
+ghost use Rattle.std.specs.Prelude.{IfOk};
 ghost use Rattle.lf_ast.specs.Rules.{rule_trees};
 ghost use Rattle.lf_worlds.specs.views.Readings.{AreReadingsOf};
 

@@ -9,12 +9,14 @@ ghost use Rattle.lf_worlds.specs.views.Tried.{AreBelow, IsEvaluatedAt, IsSampleS
 use lf_ast::{LabelSet, Rule, World};
 use lf_base::{Memory, Seq, Text};
 use lf_candidates::Trial;
+use lf_classes::Universe;
 use lf_strict::strict_after;
 use std::alloc::Global;
 
 /// The world of a trial, if there is one and it shows a presence of a label on a sample of rule `i`.
 pub fn world_if_shown(
     alloc: Global,
+    universe: &Universe,
     rules: &Seq<Rule>,
     i: u32,
     label: &Text,
@@ -27,7 +29,7 @@ pub fn world_if_shown(
     ensures { IfOk result (IsWorldIfShown (rule_trees rules.now) i label.now presence trial) }
 {
     match trial {
-        Some(trial) => world_of(alloc, rules, i, label, presence, trial),
+        Some(trial) => world_of(alloc, universe, rules, i, label, presence, trial),
         None => Ok(None),
     }
 }
@@ -36,6 +38,7 @@ pub fn world_if_shown(
 /// that presence.
 fn world_of(
     alloc: Global,
+    universe: &Universe,
     rules: &Seq<Rule>,
     i: u32,
     label: &Text,
@@ -47,7 +50,7 @@ fn world_of(
     requires steps { (k : ℕ) → Contains trial.steps k → k < length rules.now }
     ensures { IfOk result (IsWorldShown (rule_trees rules.now) i label.now presence trial) }
 {
-    match sample_of(alloc, rules, i, label, presence, &trial)? {
+    match sample_of(alloc, universe, rules, i, label, presence, &trial)? {
         Some(sample) => {
             let Trial { series, steps } = trial;
             Ok(Some(World {
@@ -63,6 +66,7 @@ fn world_of(
 /// The sample that a trial shows: the first with the presence that the rule strictly gives behind the steps.
 fn sample_of(
     alloc: Global,
+    universe: &Universe,
     rules: &Seq<Rule>,
     i: u32,
     label: &Text,
@@ -75,7 +79,8 @@ fn sample_of(
     ensures { IfOk result (IsSampleShown (rule_trees rules.now) i label.now presence trial.now) }
 {
     let rule = rules.get(i as usize);
-    match strict_after(alloc, &trial.series, rules, &trial.steps, &rule.expr)? {
+    let (series, steps) = (&trial.series, &trial.steps);
+    match strict_after(alloc, universe, series, rules, steps, &rule.expr)? {
         Some(samples) => Ok(first_with(samples, label.as_str(), presence)),
         None => Ok(None),
     }

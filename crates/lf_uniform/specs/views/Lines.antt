@@ -6,7 +6,7 @@ use Rattle.lf_ast.specs.Labels.{Bytes}
 use Rattle.lf_ast.specs.Rules.{RuleTree}
 use Rattle.lf_deps.specs.Reading.{selectors}
 use Rattle.lf_deps.specs.views.Names.{IsPlaced}
-use Rattle.lf_semantics.specs.Environments.{records, recorded_names}
+use Rattle.lf_semantics.specs.Environments.{records}
 use Rattle.lf_semantics.specs.Listing.{Listing, place}
 use Rattle.lf_trials.specs.Follow.{Followed, follow, recorded_text}
 use Rattle.lf_trials.specs.Reached.{first_rule, is_recorded}

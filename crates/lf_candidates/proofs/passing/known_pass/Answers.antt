@@ -2,7 +2,7 @@ use Rattle.std.proofs.Common.{◌≡◌, ◌∙◌, ap}
 use Rattle.std.proofs.lemmas.Option.{IfSome_then}
 use Rattle.lf_classes.specs.views.PatternCache.{passing_row}
 use Rattle.lf_candidates.proofs.PassingTexts.{cached_passes, cached_shape}
-use Rattle.lf_candidates.proofs.passing.cached.Goals as goal
+use Rattle.lf_candidates.proofs.passing.known_pass.Goals as goal
 
 pub own_class-requires-clause-shape : goal.own_class-requires-clause-shape
 own_class-requires-clause-shape c =
