@@ -53,7 +53,7 @@ pub fn evaluated(alloc: Global, store: &Store, expr: &Expr) -> Result<Evaluated,
 /// Evaluates an expression from what its parts give, over a store. Of the arguments of a call only the operand is looked at.
 #[derive(Drop)]
 struct Evaluation<'a> {
-    store: &'a Store,
+    store: &'a Store<'a>,
 }
 
 impl<'a> Fold for Evaluation<'a> {

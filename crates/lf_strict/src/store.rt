@@ -10,24 +10,26 @@ ghost use Rattle.lf_witness.specs.StrictRuns.{InOrder};
 
 use crate::apart::together;
 use crate::named_samples::NamedSamples;
-use crate::selecting::{named, passing_each, select};
+use crate::selecting::{named, passing_each, push_named, select};
 use crate::signature::push_each;
 use lf_ast::{LabelSet, Matcher, selected_name};
 use lf_base::{Memory, Seq, Text};
 use std::alloc::Global;
 use std::marker::Model;
 
-/// How many samples are gone through one by one, before the others are kept by their names.
+/// How many of the samples that a store is made of, and how many of those that are put, are gone through one by one, before the others are kept by their names.
 const FEW: usize = 8;
 
-/// The stored samples, of which equal ones count once. Most worlds have a few, which are looked through, and no more. Any others are found by their metric names.
+/// The stored samples, of which equal ones count once. Most worlds have a few, which are looked through, and no more. Any others are found by their metric names. The first
+/// of the samples that a store is made of stay where they are.
 #[derive(Drop)]
-pub struct Store {
+pub struct Store<'a> {
+    given: &'a [LabelSet],
     few: Vec<LabelSet>,
     others: NamedSamples,
 }
 
-impl Model for Store {
+impl<'a> Model for Store<'a> {
     ghost use Rattle.std.specs.Prelude.{List, ◌++◌};
     ghost use Rattle.std.specs.Coded.{coded_ℕ, coded_list};
     ghost use Rattle.std.specs.FinMap as map;
@@ -37,26 +39,28 @@ impl Model for Store {
 
     ghost coded = { coded_list (map.code (coded_list coded_ℕ) (coded_list coded_ℕ)) };
 
-    ghost view = { λ store. store.few.items ++ store.others };
+    ghost view = { λ store. (store.given.now ++ store.few.items) ++ store.others };
 }
 
-impl Store {
-    /// No sample.
-    fn new(alloc: Global) -> Store
-        ensures { result ≡ [] }
+impl<'a> Store<'a> {
+    /// These samples and no others.
+    fn new(alloc: Global, given: &'a [LabelSet]) -> Store<'a>
+        ensures { result ≡ given.now }
     {
         Store {
+            given,
             few: Vec::new(alloc),
             others: NamedSamples::new(alloc),
         }
     }
 
-    /// These samples, of which equal ones count once.
-    pub fn of(alloc: Global, samples: &Seq<LabelSet>) -> Result<Store, Memory>
+    /// These samples, of which equal ones count once. All but a few are copied.
+    pub fn of(alloc: Global, samples: &'a Seq<LabelSet>) -> Result<Store<'a>, Memory>
         ensures { IfOk result (AreSame samples.now) }
     {
-        let mut store = Store::new(alloc);
-        store.add(alloc, samples.as_slice())?;
+        let (given, others) = samples.as_slice().split_at(samples.len().min(FEW));
+        let mut store = Store::new(alloc, given);
+        store.add(alloc, others)?;
         Ok(store)
     }
 
@@ -97,6 +101,7 @@ impl Store {
         ensures ascends { IfOk result IsAscending }
     {
         let mut all = Vec::new(alloc);
+        push_each(&mut all, self.given)?;
         push_each(&mut all, self.few.as_slice())?;
         self.others.push_to(&mut all)?;
         Ok(together(all))
@@ -131,7 +136,8 @@ impl Store {
         requires { (s : Labels) → HasName name.now s → PassesEach matchers.now s → value_of s metric ≡ sought.now }
         ensures { IfOk result (λ set. InOrder (IsSet (AreSelected self.now name.now matchers.now)) (Some set)) }
     {
-        let kept = named(alloc, self.few.as_slice(), name)?;
+        let mut kept = named(alloc, self.given, name)?;
+        push_named(&mut kept, self.few.as_slice(), name)?;
         let mut found = passing_each(alloc, kept, matchers)?;
         let others = self.others.select_named(alloc, sought, name, matchers)?;
         take_each(&mut found, others)?;
