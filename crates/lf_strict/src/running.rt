@@ -66,7 +66,7 @@ pub fn strict_after(
 /// Adds what steps of rules store to the stored samples, up to the first that is None, and says whether none is.
 fn run_steps(
     alloc: Global,
-    store: &mut Store,
+    store: &mut Store<'_>,
     rules: &[Rule],
     steps: &[u32],
 ) -> Result<bool, Memory>

@@ -1,5 +1,5 @@
 //! The samples that a selector gives.
-ghost use Rattle.std.specs.Prelude.{◌≡◌, ◌&&◌, IfOk, IfSome, Some};
+ghost use Rattle.std.specs.Prelude.{◌≡◌, ◌++◌, ◌&&◌, IfOk, IfSome, OnOk, Some};
 ghost use Rattle.std.specs.List.{filter};
 ghost use Rattle.std.specs.Str.{bytes_eq};
 ghost use Rattle.lf_pattern.specs.Matching.{is_read, matches};
@@ -128,12 +128,24 @@ pub fn named(
     ensures { IfOk result (λ kept. kept.items ≡ filter (has_name name.now) samples.now) }
 {
     let mut kept = Vec::new(alloc);
+    push_named(&mut kept, samples, name)?;
+    Ok(kept)
+}
+
+/// Appends the samples of this name, or all of them. It may have appended some where it fails.
+pub fn push_named(
+    kept: &mut Vec<LabelSet>,
+    samples: &[LabelSet],
+    name: &Option<Text>,
+) -> Result<(), Memory>
+    ensures { OnOk result (kept.new.items ≡ kept.old.items ++ filter (has_name name.now) samples.now) }
+{
     for sample in samples {
         if has_name(name, sample) {
             kept.push(sample.copy()?)?;
         }
     }
-    Ok(kept)
+    Ok(())
 }
 
 /// Whether a sample has this name, if there is one.

@@ -15,7 +15,7 @@ use lf_nodes::is_rule_type;
 use std::alloc::Global;
 
 /// Adds what a step of a rule stores to the stored samples, and says whether the step isn't None. It may have added some where it fails.
-pub fn step(alloc: Global, store: &mut Store, rule: &Rule) -> Result<bool, Memory>
+pub fn step(alloc: Global, store: &mut Store<'_>, rule: &Rule) -> Result<bool, Memory>
     ensures { IfOk result (IsStep store.old (rule_tree rule.now) store.new) }
 {
     match added(alloc, store, rule)? {

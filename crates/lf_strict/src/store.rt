@@ -10,7 +10,7 @@ ghost use Rattle.lf_witness.specs.StrictRuns.{InOrder};
 
 use crate::apart::together;
 use crate::named_samples::NamedSamples;
-use crate::selecting::{named, passing_each, select};
+use crate::selecting::{named, passing_each, push_named, select};
 use crate::signature::push_each;
 use lf_ast::{LabelSet, Matcher, selected_name};
 use lf_base::{Memory, Seq, Text};
@@ -18,14 +18,15 @@ use lf_classes::Universe;
 use std::alloc::Global;
 use std::marker::Model;
 
-/// How many samples are gone through one by one, before the others are kept by their names.
+/// How many of the samples that a store is made of, and how many of those that are put, are gone through one by one, before the others are kept by their names.
 const FEW: usize = 8;
 
-/// The stored samples, of which equal ones count once. Most worlds have a few, which are looked through, and no more. Any others are found by their metric names. Where a
-/// universe is at hand, of texts that are its classes it is looked up there whether they pass a pattern.
+/// The stored samples, of which equal ones count once. Most worlds have a few, which are looked through, and no more. Any others are found by their metric names. The first
+/// of the samples that a store is made of stay where they are. Where a universe is at hand, it is looked up there whether texts that are its classes pass a pattern.
 #[derive(Drop)]
 pub struct Store<'a> {
     universe: Option<&'a Universe>,
+    given: &'a [LabelSet],
     few: Vec<LabelSet>,
     others: NamedSamples,
 }
@@ -40,31 +41,33 @@ impl<'a> Model for Store<'a> {
 
     ghost coded = { coded_list (map.code (coded_list coded_ℕ) (coded_list coded_ℕ)) };
 
-    ghost view = { λ store. store.few.items ++ store.others };
+    ghost view = { λ store. (store.given.now ++ store.few.items) ++ store.others };
 }
 
 impl<'a> Store<'a> {
-    /// No sample.
-    fn new(alloc: Global, universe: Option<&'a Universe>) -> Store<'a>
-        ensures { result ≡ [] }
+    /// These samples and no others.
+    fn new(alloc: Global, universe: Option<&'a Universe>, given: &'a [LabelSet]) -> Store<'a>
+        ensures { result ≡ given.now }
     {
         Store {
             universe,
+            given,
             few: Vec::new(alloc),
             others: NamedSamples::new(alloc),
         }
     }
 
-    /// These samples, of which equal ones count once. With a universe, if one is at hand, whose rules have patterns that it has cached.
+    /// These samples, of which equal ones count once, with a universe, if one is at hand. All but a few are copied.
     pub fn of(
         alloc: Global,
         universe: Option<&'a Universe>,
-        samples: &Seq<LabelSet>,
+        samples: &'a Seq<LabelSet>,
     ) -> Result<Store<'a>, Memory>
         ensures { IfOk result (AreSame samples.now) }
     {
-        let mut store = Store::new(alloc, universe);
-        store.add(alloc, samples.as_slice())?;
+        let (given, others) = samples.as_slice().split_at(samples.len().min(FEW));
+        let mut store = Store::new(alloc, universe, given);
+        store.add(alloc, others)?;
         Ok(store)
     }
 
@@ -105,6 +108,7 @@ impl<'a> Store<'a> {
         ensures ascends { IfOk result IsAscending }
     {
         let mut all = Vec::new(alloc);
+        push_each(&mut all, self.given)?;
         push_each(&mut all, self.few.as_slice())?;
         self.others.push_to(&mut all)?;
         Ok(together(all))
@@ -139,7 +143,8 @@ impl<'a> Store<'a> {
         requires { (s : Labels) → HasName name.now s → PassesEach matchers.now s → value_of s metric ≡ sought.now }
         ensures { IfOk result (λ set. InOrder (IsSet (AreSelected self.now name.now matchers.now)) (Some set)) }
     {
-        let kept = named(alloc, self.few.as_slice(), name)?;
+        let mut kept = named(alloc, self.given, name)?;
+        push_named(&mut kept, self.few.as_slice(), name)?;
         let mut found = passing_each(alloc, self.universe, kept, matchers)?;
         let others = self
             .others

@@ -1,5 +1,6 @@
-use Rattle.std.proofs.Common.{◌≡◌, ◌++◌, List, ap, ◌∙◌, sym, subst}
+use Rattle.std.proofs.Common.{◌≡◌, ◌++◌, List, ap, ap₂, ◌∙◌, sym, subst}
 use Rattle.std.specs.List.{filter}
+use Rattle.std.proofs.lemmas.List.Elements.{filter-append}
 use Rattle.lf_ast.specs.Labels.{Labels}
 use Rattle.lf_witness.specs.Strict.{AreSelected}
 use Rattle.lf_witness.proofs.SameSets.{chained}
@@ -11,13 +12,18 @@ pub returns : goal.returns
 returns c =
     let name = c.args.name.now in
     let ms = c.args.matchers.now in
+    let given : List Labels = c.self.inside.given.now in
     let few : List Labels = c.self.inside.few.items in
+    let before : List Labels = given ++ few in
     let others : List Labels = c.self.inside.others in
     let found : List Labels = c.in_ok-found.found.items in
     let more : List Labels = c.in_ok-others.others in
     let all : List Labels = c.take_each.new.all.items in
-    let chosen : found ≡ passing ms (filter (has_name name) few) = c.in_ok-found.ensures ∙ ap (passing ms) (c.in_ok-kept.ensures ∙ ap (filter (has_name name)) c.as_slice.ensures.value) in
-    let first = subst (λ (l : List Labels). AreSelected few name ms l) (sym chosen) (chosen_selected few name ms) in
-    let both = joined_selected few others name ms found more first c.in_ok-others.ensures.0 in
+    let append = λ (x y : List Labels). x ++ y in
+    let kept : c.push_named.new.kept.items ≡ filter (has_name name) before =
+    c.in_ok-push_named.ensures ∙ ap₂ append c.in_ok-kept.ensures (ap (filter (has_name name)) c.as_slice.ensures.value) ∙ sym (filter-append (has_name name) given few) in
+    let chosen : found ≡ passing ms (filter (has_name name) before) = c.in_ok-found.ensures ∙ ap (passing ms) kept in
+    let first = subst (λ (l : List Labels). AreSelected before name ms l) (sym chosen) (chosen_selected before name ms) in
+    let both = joined_selected before others name ms found more first c.in_ok-others.ensures.0 in
     let same = chained (found ++ more) all c.together.result c.in_ok-take_each.ensures c.together.ensures.same in
-    (subst (λ (l : List Labels). AreSelected l name ms c.together.result) c.self.view_is (moved_selected (few ++ others) name ms (found ++ more) c.together.result both same), c.together.ensures.ascends)
+    (subst (λ (l : List Labels). AreSelected l name ms c.together.result) c.self.view_is (moved_selected (before ++ others) name ms (found ++ more) c.together.result both same), c.together.ensures.ascends)
