@@ -1,6 +1,7 @@
 -- The steps of a table, by the events.
 use Rattle.std.proofs.Common.{◌≡◌, ℕ, suc, ◌+◌, ◌-◌, ◌%◌, ◌^◌, ◌<◌, ◌≤◌, true, false, ◌||◌, List, [], ◌∷◌, ◌++◌, map, length, get_or, set, drop, bit_or, refl, sym, ap, ◌∙◌, subst, arith, lt_of_not-le}
 use Rattle.std.proofs.lemmas.List.{set-get_or}
+use Rattle.std.proofs.lemmas.Nat.Bits.{bit_at_or, same_from_bits}
 use mathlib.Core.Logic.{dite}
 use mathlib.Core.Option.{some, none}
 use native.Mathlib.Decide.{dec_le}
@@ -17,7 +18,11 @@ use Rattle.lf_rounds.specs.views.Noting.{AreMadeBy, AreNoted}
 use Rattle.lf_rounds.specs.Rounds.{Holds, HoldsWords, IsSummed, Kept, adds, board_of, both_of, claimed, finished, left_of, loaded, noted, raised, right_of, spent_view, task_of}
 use Rattle.lf_rounds.specs.Tasks.{IsBelowLeast, IsTask, Raised, place_of, stored_word, width}
 use Rattle.lf_classes.specs.RowWords.{WordsLeq}
+use Rattle.lf_classes.proofs.RowWordOrder.{zero_leq}
 use Rattle.lf_rounds.proofs.Events.{claims_none, claims_piece, ends, finishes, joins, loads, noted_made, raises, splits}
+
+or_nothing : (n : ℕ) → bit_or n 0 ≡ n
+or_nothing n = same_from_bits (bit_or n 0) n (λ i. omega (arith, bit_at_or n 0 i, zero_leq n i))
 
 abbrev pub Mine : Type 0
 Mine = Me (Unit {0}) RoundView
@@ -76,6 +81,13 @@ module _ (k : About) (id : ℕ) (me : Mine) where
       pub may_raise : (slots word : ℕ) → word ≡ suc i → me.0.raised < width (task_of k) → Allows (Kept k) slots id me word (λ n. bit_or n x) (raised (step slots word x 0 none) me)
       may_raise slots word is more = subst (λ (z : ℕ). Allows (Kept k) slots id me z (λ n. bit_or n x) (raised (step slots z x 0 none) me)) (sym is)
           (λ s h homes at fits. let r = raise_at more s.words s.views h at in (r.0, keeps, tt, r.1, (refl, r.2)))
+
+      -- where the word has no bit, a load does the same
+      pub may_raise_none : x ≡ 0 → (slots word : ℕ) → word ≡ suc i → me.0.raised < width (task_of k) → Allows (Kept k) slots id me word (λ n. n) (raised (step slots word 0 0 none) me)
+      may_raise_none empty slots word is more =
+          let P : ℕ → Type 0 = λ z. Allows (Kept k) slots id me word (λ n. bit_or n z) (raised (step slots word z 0 none) me) in
+          let Q : (ℕ → ℕ) → Type 0 = λ f. Allows (Kept k) slots id me word f (raised (step slots word 0 0 none) me) in
+          subst Q (λ j n. or_nothing n j) (subst P empty (may_raise slots word is more))
 
       finish_at : me.0.raised + 1 ≡ width (task_of k) → IsSummed (task_of k) (record { piece = me.0.piece; loads = me.0.loads }) → (ws : List ℕ) (views : List RoundView) → HoldsWords k ws views → get_elem? views id ≡ some me.0
           → (w : RoundView) × HoldsWords k (set ws (suc i) (bit_or (get_or ws (suc i) 0) x)) (set views id w)

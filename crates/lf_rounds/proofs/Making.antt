@@ -1,5 +1,6 @@
 -- A round that is made.
 use Rattle.std.proofs.Common.{◌≡◌, ℕ, ◌+◌, ◌*◌, ◌<◌, ◌≤◌, ◌^◌, List, [], ◌∷◌, length, sym, ◌∙◌, ap, subst}
+use Rattle.std.specs.List.{sum}
 use Rattle.atomic_table.specs.Seated.{TableId}
 use Rattle.lf_ast.specs.Rules.{rule_trees}
 use Rattle.lf_ast.specs.declared.rule.Rule.{Rule}
@@ -30,20 +31,20 @@ module _ (k : About) (u : Listing) (rules : List Rule) (reads : List (List ℕ))
         words = ap length es ∙ count ∙ (λ i. length (recorded_names (rule_trees (sym er i))) * word_count (sym eu i));
       }
 
-  pub kept_over : (table : TableId) (recorded : List ℕ) (wide : ℕ) → IsListing u → CoversRules u (rule_trees rules) → IsKnown (rule_trees rules) recorded reads → AreRecording (rule_trees rules) numbers → OthersHold u (rule_trees rules) numbers words
+  pub kept_over : (table : TableId) (recorded : List ℕ) (total wide : ℕ) → IsListing u → CoversRules u (rule_trees rules) → IsKnown (rule_trees rules) recorded reads → AreRecording (rule_trees rules) numbers → OthersHold u (rule_trees rules) numbers words
       → length words ≡ length (recorded_names (rule_trees rules)) * word_count u
       → k.counts.pieces ≡ length numbers → length numbers < 2 ^ 32 → k.counts.seats ≤ 64 → table.words ≡ length words + 1 → length words + 1 < 2 ^ 64 → table.slots ≡ 0
-      → wide ≡ word_count u → IsKept k table recorded reads numbers words wide
-  kept_over table recorded wide p covers known recording others count counted few seats wordy fits slots width = record {
+      → total ≡ sum words → wide ≡ word_count u → IsKept k table recorded reads numbers total wide
+  kept_over table recorded total wide p covers known recording others count counted few seats wordy fits slots summed width = record {
     task = task_over p covers known.reads recording others count;
     reads = ed;
     pieces = ep;
-    start = es;
+    summed = summed ∙ ap sum (sym es);
     count = counted;
     few = few;
     seats = seats;
-    words = wordy;
-    fits = fits;
+    words = wordy ∙ ap (λ (ws : List ℕ). length ws + 1) (sym es);
+    fits = (let F : List ℕ → Type 0 = λ ws. length ws + 1 < 2 ^ 64 in subst F (sym es) fits);
     slots = slots;
     names = (let N : List Rule → Type 0 = λ rs. ArePlaced (recorded_names (rule_trees rs)) (rule_trees rs) recorded in subst N (sym er) known.names);
     width = width ∙ ap word_count (sym eu);

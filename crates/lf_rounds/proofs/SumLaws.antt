@@ -36,7 +36,7 @@ sum_leq (x ∷ xs) [] l leq = absurd (omega arith)
 sum_leq (x ∷ xs) (y ∷ ys) l leq =
     omega (arith, word_le x y (leq.at 0), sum_leq xs ys (omega arith) (rest_leq x y xs ys leq), sum_by-cons (λ (n : ℕ). n) x xs, sum_by-cons (λ (n : ℕ). n) y ys)
 
-same_by_sum : (xs ys : List ℕ) → length xs ≡ length ys → WordsLeq xs ys → sum xs ≡ sum ys → xs ≡ ys
+pub same_by_sum : (xs ys : List ℕ) → length xs ≡ length ys → WordsLeq xs ys → sum xs ≡ sum ys → xs ≡ ys
 same_by_sum [] [] l leq e = refl
 same_by_sum [] (y ∷ ys) l leq e = absurd (omega arith)
 same_by_sum (x ∷ xs) [] l leq e = absurd (omega arith)

@@ -28,16 +28,20 @@ pub fn first_words(
 }
 
 /// Clear words for so many names.
-pub(crate) fn clear_words(
-    alloc: Global,
-    universe: &Universe,
-    names: usize,
-) -> Result<Seq<u64>, Memory>
+fn clear_words(alloc: Global, universe: &Universe, names: usize) -> Result<Seq<u64>, Memory>
     ensures { IfOk result (λ words. words ≡ replicate (names * word_count universe.now) 0) }
 {
-    let Some(count) = names.checked_mul(universe.words() as usize) else {
-        return Err(Memory);
-    };
+    let count = count_words(universe, names)?;
     let words = vec![in alloc; 0; count]?;
     Ok(Seq::from_vec(words))
+}
+
+/// How many words the rows of so many names have. Want of memory where they are more than can be counted.
+pub(crate) fn count_words(universe: &Universe, names: usize) -> Result<usize, Memory>
+    ensures { IfOk result (λ count. count ≡ names * word_count universe.now) }
+{
+    match names.checked_mul(universe.words() as usize) {
+        Some(count) => Ok(count),
+        None => Err(Memory),
+    }
 }

@@ -6,11 +6,11 @@ ghost use Rattle.lf_rounds.specs.Tasks.{AreTaskPieces, Task};
 ghost use Rattle.lf_rounds.specs.views.Noting.{AreMadeBy, AreRemembered, IsMadeBy};
 ghost use Rattle.lf_rounds.specs.views.Standings.{IsSettledOf, IsStanding};
 
-use crate::beginning::clear_words;
 use crate::due::due_of;
 use crate::known::RecordedReads;
 use crate::round::Settled;
 use crate::rule::Loaded;
+use crate::table_words::TableWords;
 use lf_ast::Rule;
 use lf_base::{Memory, Seq};
 use lf_classes::Universe;
@@ -22,7 +22,7 @@ use std::alloc::Global;
 #[derive(Drop)]
 pub(crate) struct Standing {
     pub(crate) known: RecordedReads,
-    pub(crate) words: Seq<u64>,
+    pub(crate) words: TableWords,
     pub(crate) sums: Vec<Option<u128>>,
     pub(crate) due: Seq<u32>,
 }
@@ -41,7 +41,7 @@ impl Standing {
         ensures { IfOk result (IsStanding universe.now (rule_trees rules.now)) }
     {
         let known = RecordedReads::of(alloc, rules, sources)?;
-        let words = clear_words(alloc, universe, sources.recorded().len())?;
+        let words = TableWords::clear(alloc, universe, sources.recorded().len())?;
         let sums = no_sums(alloc, rules.len())?;
         let due = all.copy()?;
         Ok(Standing {
@@ -52,7 +52,7 @@ impl Standing {
         })
     }
 
-    /// Behind a round, of which this is left, and the words at its start. The sums are those that there were before it.
+    /// Behind a round, of which this is left. The sums are those that there were before it.
     pub(crate) fn after(
         alloc: Global,
         universe: &Universe,
@@ -60,31 +60,29 @@ impl Standing {
         all: &Seq<u32>,
         mut sums: Vec<Option<u128>>,
         settled: Settled,
-    ) -> Result<(Standing, Seq<u64>), Memory>
+    ) -> Result<Standing, Memory>
         requires all { AreTaskPieces (rule_trees rules.now) all.now }
         requires settled { IsSettledOf universe.now (rule_trees rules.now) sums.items settled }
-        ensures standing { IfOk result (λ next. IsStanding universe.now (rule_trees rules.now) next.0) }
-        ensures words { IfOk result (λ next. next.0.words ≡ settled.words) }
-        ensures start { IfOk result (λ next. next.1 ≡ settled.start) }
+        ensures standing { IfOk result (IsStanding universe.now (rule_trees rules.now)) }
+        ensures words { IfOk result (λ next. next.words ≡ settled.words) }
     {
         let _labels = universe.labels();
         let Settled {
             words,
-            start,
             known,
             pieces,
             notes,
         } = settled;
         remember(&mut sums, &pieces, notes.as_slice());
         let width = universe.words();
-        let due = due_of(alloc, &known, all, sums.as_slice(), &words, width)?;
-        let standing = Standing {
+        let rows = words.row_words();
+        let due = due_of(alloc, &known, all, sums.as_slice(), rows, width)?;
+        Ok(Standing {
             known,
             words,
             sums,
             due,
-        };
-        Ok((standing, start))
+        })
     }
 }
 

@@ -18,7 +18,7 @@ pub(crate) fn due_of(
     known: &RecordedReads,
     all: &Seq<u32>,
     last: &[Option<u128>],
-    words: &Seq<u64>,
+    words: &[u64],
     width: u32,
 ) -> Result<Seq<u32>, Memory>
     requires width { 0 < width }
@@ -26,7 +26,7 @@ pub(crate) fn due_of(
     ensures some { IfOk result (λ due. (k : ℕ) → Contains due k → Contains all.now k) }
     ensures others { IfOk result (λ due. (k : ℕ) → Contains all.now k → Contains due k ⊎ IsCurrent width words.now known.now.reads last.now k) }
 {
-    let sums = row_sums(alloc, words.as_slice(), width)?;
+    let sums = row_sums(alloc, words, width)?;
     due_by(alloc, known, all, last, sums.as_slice())
 }
 

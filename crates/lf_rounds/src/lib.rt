@@ -10,6 +10,7 @@ mod round;
 pub mod rule;
 mod solving;
 mod sums;
+mod table_words;
 
 pub use beginning::first_words;
 pub use round::{Round, RoundEnd, RoundSeat};

@@ -12,7 +12,7 @@ use crate::known::RecordedReads;
 use crate::rule::{About, Loaded, Rising, RoundCut, RoundMerge, RoundView};
 use atomic_table::{Seat, Table};
 pub use closing::RoundEnd;
-pub(crate) use closing::{Settled, differ};
+pub(crate) use closing::Settled;
 use lf_base::choice::both;
 use lf_base::{Memory, Seq};
 use lf_board::rule::Cutting;
@@ -22,13 +22,13 @@ use std::alloc::Global;
 use std::marker::{Brand, Model};
 
 /// A round over recording rules, its pieces: each is computed once, from rows that only grow while others raise them, and its row is raised in turn. Any number of threads
-/// may share it.
+/// may share it. Of the words at its start it has their sum.
 #[derive(Drop)]
 pub struct Round {
     table: Table<(), RoundView, About, Rising, Global>,
     known: RecordedReads,
     pieces: Seq<u32>,
-    start: Seq<u64>,
+    total: u128,
     width: u32,
 }
 
@@ -44,7 +44,7 @@ impl Model for Round {
 
     ghost view = { λ r. round_facts r.table.shared.key r.table.shared.table_id r.pieces };
 
-    ghost invariant = { λ r. IsKept r.table.shared.key r.table.shared.table_id r.known.names r.known.reads r.pieces r.start r.width };
+    ghost invariant = { λ r. IsKept r.table.shared.key r.table.shared.table_id r.known.names r.known.reads r.pieces r.total r.width };
 }
 
 /// A place in a round, with which one worker claims and works. Of pieces that it did it has notes.

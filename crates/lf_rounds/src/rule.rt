@@ -1,6 +1,7 @@
 //! The rule that the claim word, the row words and the seats of a round keep, and what its five kinds of step do.
 ghost use Rattle.lf_rounds.specs.Rounds.{Kept, both_of, claimed, finished, left_of, loaded, opening_view, raised, right_of, spent_view};
 
+use crate::table_words::TableWords;
 use atomic_table::{Join, Play, Split, TableRule};
 use lf_ast::Rule;
 use lf_base::Seq;
@@ -18,7 +19,7 @@ pub struct About {
     pub rules: Snapshot<Seq<Rule>>,
     pub reads: Snapshot<Seq<Seq<u32>>>,
     pub pieces: Snapshot<Seq<u32>>,
-    pub start: Snapshot<Seq<u64>>,
+    pub start: Snapshot<TableWords>,
 }
 
 /// A load that was noted: where the word stands among the row words, and what was found there.

@@ -1,5 +1,5 @@
 //! The least environment by rounds.
-ghost use Rattle.std.specs.Prelude.{◌≡◌, ◌≢◌, ◌⊎◌, true, false, ◌*◌, ◌+◌, ◌<◌, ◌≤◌, drop, length, take, IfOk};
+ghost use Rattle.std.specs.Prelude.{◌≡◌, ◌≢◌, ◌⊎◌, true, false, ◌*◌, ◌+◌, ◌<◌, ◌≤◌, drop, length, sum, take, IfOk};
 ghost use Rattle.std.specs.Thread.{IsSync};
 ghost use Rattle.lf_ast.specs.Rules.{rule_trees};
 ghost use Rattle.lf_classes.specs.RowWords.{row_of_words, word_count};
@@ -13,7 +13,8 @@ ghost use Rattle.lf_board.specs.views.Workers.{HasRoomFor};
 ghost use Rattle.lf_rounds.specs.views.Workers.{IsFresh, IsOf, IsShut};
 
 use crate::between::Standing;
-use crate::round::{differ, recording_rules_by, take_row};
+use crate::round::{recording_rules_by, take_row};
+use crate::table_words::TableWords;
 use crate::{Round, RoundSeat};
 use lf_ast::Rule;
 use lf_base::{Gate, Memory, Seq};
@@ -76,11 +77,11 @@ pub fn solve_shared_by<R: Threads + Sync, G: Gate + Sync>(
     let mut turn = 0;
     'rounds: loop {
         let seats = seats_in(turn, workers, standing.words.len());
-        let (next, before) = behind_round(
+        let before = standing.words.total();
+        standing = behind_round(
             rt, alloc, universe, rules, &all, standing, seats, &mut env, gate,
         )?;
-        standing = next;
-        if is_last(&standing, &before) {
+        if is_last(&standing, before) {
             let env = environment(alloc, universe, env, &standing.words)?;
             return Ok(env);
         }
@@ -88,18 +89,18 @@ pub fn solve_shared_by<R: Threads + Sync, G: Gate + Sync>(
     }
 }
 
-/// Whether no further round is needed behind one with these words at its start: no rule is due, or no word changed.
-fn is_last(standing: &Standing, before: &Seq<u64>) -> bool
-    ensures last { result ≡ true → (length standing.now.due ≡ 0) ⊎ (standing.now.words ≡ before.now) }
-    ensures more { result ≡ false → standing.now.words ≢ before.now }
+/// Whether no further round is needed behind one at whose start the words had this sum: no rule is due, or no word changed.
+fn is_last(standing: &Standing, before: u128) -> bool
+    ensures last { result ≡ true → (length standing.now.due ≡ 0) ⊎ (sum standing.now.words ≡ before) }
+    ensures more { result ≡ false → sum standing.now.words ≢ before }
 {
     if standing.due.len() == 0 {
         return true;
     }
-    !differ(standing.words.as_slice(), before.as_slice())
+    standing.words.total() == before
 }
 
-/// What a round leaves that takes the rules that are due, and the words at its start.
+/// What a round leaves that takes the rules that are due.
 fn behind_round<R: Threads + Sync, G: Gate + Sync>(
     rt: &R,
     alloc: Global,
@@ -110,15 +111,14 @@ fn behind_round<R: Threads + Sync, G: Gate + Sync>(
     seats: u32,
     env: &mut Env,
     gate: &G,
-) -> Result<(Standing, Seq<u64>), Memory>
+) -> Result<Standing, Memory>
     requires seats { (0 < seats) × (seats ≤ 64) }
     requires covers { CoversRules universe.now (rule_trees rules.now) }
     requires all { AreTaskPieces (rule_trees rules.now) all.now }
     requires before { IsStanding universe.now (rule_trees rules.now) before }
     requires env { IsEnvironmentOf universe.now (rule_trees rules.now) env.old }
-    ensures standing { IfOk result (λ next. IsStanding universe.now (rule_trees rules.now) next.0) }
-    ensures rises { IfOk result (λ next. Rises universe.now (rule_trees rules.now) before.words next.0.words) }
-    ensures start { IfOk result (λ next. next.1 ≡ before.words) }
+    ensures standing { IfOk result (IsStanding universe.now (rule_trees rules.now)) }
+    ensures rises { IfOk result (λ next. Rises universe.now (rule_trees rules.now) before.words next.words) }
     ensures env { IfOk result (λ _. IsEnvironmentOf universe.now (rule_trees rules.now) env.new) }
 {
     let Standing {
@@ -218,7 +218,7 @@ fn environment(
     alloc: Global,
     universe: &Universe,
     mut env: Env,
-    words: &Seq<u64>,
+    words: &TableWords,
 ) -> Result<Env, Memory>
     requires env { IsEnvironment universe.now env }
     requires words { length words.now ≡ length env * word_count universe.now }
@@ -229,7 +229,7 @@ fn environment(
     let mut own = vec![in alloc; 0; width]?;
     for name in 0..env.names() {
         let at = name as usize * width;
-        let part = &words.as_slice()[at..at + width];
+        let part = &words.row_words()[at..at + width];
         take_row(alloc, universe, &mut env, name, part, &mut own)?;
     }
     Ok(env)

@@ -12,12 +12,19 @@ pub(crate) fn with_words(before: u128, words: &[u64]) -> Result<u128, Memory>
 {
     let mut all = before;
     for word in words {
-        match all.checked_add(u128::from(*word)) {
-            Some(more) => all = more,
-            None => return Err(Memory),
-        }
+        all = with_word(all, *word)?;
     }
     Ok(all)
+}
+
+/// A sum with a word added to it. Want of memory where it doesn't fit.
+pub(crate) fn with_word(before: u128, word: u64) -> Result<u128, Memory>
+    ensures { IfOk result (λ all. all ≡ before + word) }
+{
+    match before.checked_add(u128::from(word)) {
+        Some(all) => Ok(all),
+        None => Err(Memory),
+    }
 }
 
 /// The sums of the words of all rows, which have so many words each.

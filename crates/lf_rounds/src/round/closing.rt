@@ -1,6 +1,5 @@
 //! The end of a round.
-ghost use Rattle.std.specs.Prelude.{◌≡◌, ◌≢◌, ◌↔◌, ◌+◌, ◌-◌, true, false, drop, length, IfOk, IsTrue};
-ghost use Rattle.std.specs.Slots.{IsFull, slots_items, slots_len};
+ghost use Rattle.std.specs.Prelude.{◌≡◌, ◌≢◌, ◌↔◌, ◌-◌, true, false, length, sum, IfOk, IsTrue};
 ghost use Rattle.lf_board.specs.Numbers.{AreNumbersBelow};
 ghost use Rattle.lf_classes.specs.RowWords.{WordsLeq};
 ghost use Rattle.lf_semantics.specs.Environments.{IsLeast};
@@ -14,7 +13,7 @@ ghost use Rattle.lf_rounds.specs.views.Noting.{AreMadeBy, IsKnown};
 use super::{Round, RoundSeat};
 use crate::known::RecordedReads;
 use crate::rule::Loaded;
-use atomic_table::Closed;
+use crate::table_words::TableWords;
 use lf_base::{Memory, Seq};
 use std::alloc::Global;
 
@@ -25,11 +24,10 @@ pub struct RoundEnd {
     pub changed: bool,
 }
 
-/// All that a round leaves: the words at its end and at its start, what it was over, and notes of its pieces.
+/// All that a round leaves: the words at its end, what it was over, and notes of its pieces.
 #[derive(Drop)]
 pub(crate) struct Settled {
-    pub(crate) words: Seq<u64>,
-    pub(crate) start: Seq<u64>,
+    pub(crate) words: TableWords,
     pub(crate) known: RecordedReads,
     pub(crate) pieces: Seq<u32>,
     pub(crate) notes: Vec<Loaded>,
@@ -52,8 +50,11 @@ impl Round {
         ensures changed { IfOk result (λ end. IsTrue end.changed ↔ (end.words ≢ self.start)) }
         ensures least { IfOk result (λ end. end.changed ≡ false → IsLeast self.universe (rule_trees self.rules) (stands_for (task self) end.words)) }
     {
-        let Settled { words, start, .. } = self.settle(alloc, seat)?;
-        let changed = differ(words.as_slice(), start.as_slice());
+        let before = self.total_before();
+        let Settled { words, .. } = self.settle(alloc, seat)?;
+        // Words only grow in a round, so they are the same where their sums are.
+        let changed = words.total() != before;
+        let words = Seq::of(alloc, words.row_words())?;
         Ok(RoundEnd { words, changed })
     }
 
@@ -65,7 +66,6 @@ impl Round {
         ensures claims { AreNumbersBelow self.board.pieces seat.claims }
         ensures ends { IfOk result (λ settled. EndsRound self settled.words) }
         ensures fit { IfOk result (λ settled. AreWords settled.words) }
-        ensures start { IfOk result (λ settled. settled.start ≡ self.start) }
         ensures known { IfOk result (λ settled. IsKnown (rule_trees self.rules) settled.known.names settled.known.reads) }
         ensures over { IfOk result (λ settled. (settled.known.reads ≡ self.reads) × (settled.pieces ≡ self.pieces)) }
         ensures made { IfOk result (λ settled. AreMadeBy (task self) settled.words settled.notes.items) }
@@ -74,7 +74,7 @@ impl Round {
             table,
             known,
             pieces,
-            start,
+            total: _,
             width: _,
         } = self;
         let RoundSeat {
@@ -83,36 +83,21 @@ impl Round {
             notes,
         } = seat;
         let closed = table.close_with(seat);
-        let words = row_words(alloc, &closed, start.len());
+        let words = TableWords::of_closed(alloc, &closed);
         closed.free();
         let words = words?;
         Ok(Settled {
             words,
-            start,
             known,
             pieces,
             notes,
         })
     }
-}
 
-/// Whether some word isn't the same.
-pub(crate) fn differ(words: &[u64], start: &[u64]) -> bool
-    ensures differ { IsTrue result ↔ (words.now ≢ start.now) }
-    ensures same { result ≡ false → words.now ≡ start.now }
-{
-    words != start
-}
-
-/// The row words of a table that was closed, which stand behind the claim word.
-fn row_words(alloc: Global, closed: &Closed<(), Global>, count: usize) -> Result<Seq<u64>, Memory>
-    requires { IsFull closed.now.words × (slots_len closed.now.words ≡ count + 1) }
-    ensures words { IfOk result (λ words. words ≡ drop 1 (slots_items closed.now.words)) }
-    ensures fit { IfOk result AreWords }
-{
-    let mut words = Vec::with_capacity(alloc, count)?;
-    for k in 0..count {
-        words.push_reserved(closed.word(k + 1));
+    /// The sum of the words at the start.
+    fn total_before(&self) -> u128
+        ensures { result ≡ sum self.now.start }
+    {
+        self.total
     }
-    Ok(Seq::from_vec(words))
 }

@@ -11,6 +11,7 @@ ghost use Rattle.lf_rounds.specs.views.Noting.{IsKnown};
 use super::{Round, RoundSeat};
 use crate::known::RecordedReads;
 use crate::rule::About;
+use crate::table_words::TableWords;
 use atomic_table::Table;
 use lf_ast::Rule;
 use lf_base::{Memory, Seq};
@@ -42,7 +43,7 @@ impl Round {
         let sources = Sources::of(alloc, rules)?;
         let known = RecordedReads::of(alloc, rules, &sources)?;
         let pieces = recording_rules_by(alloc, rules, &sources)?;
-        let start = words.copy()?;
+        let start = TableWords::of(alloc, words.as_slice())?;
         let made = Round::of_due(alloc, universe, rules, known, pieces, start, seats)?;
         Ok(made)
     }
@@ -54,7 +55,7 @@ impl Round {
         rules: &Seq<Rule>,
         known: RecordedReads,
         pieces: Seq<u32>,
-        start: Seq<u64>,
+        start: TableWords,
         seats: u32,
     ) -> Result<(Round, RoundSeat), Memory>
         requires seats { (0 < seats) × (seats ≤ 64) }
@@ -79,13 +80,12 @@ impl Round {
             pieces: Snapshot::of(&pieces),
             start: Snapshot::of(&start),
         };
-        let opening = behind_claims(alloc, start.as_slice())?;
-        let (table, seat) = Table::of_words(alloc, opening.as_slice(), &about)?;
+        let (table, seat) = Table::of_words(alloc, start.for_table(), &about)?;
         let round = Round {
             table,
             known,
             pieces,
-            start,
+            total: start.total(),
             width: universe.words(),
         };
         let seat = RoundSeat {
@@ -133,14 +133,4 @@ fn count(pieces: &Seq<u32>) -> Result<u32, Memory>
         Ok(count) => Ok(count),
         Err(_) => Err(Memory),
     }
-}
-
-/// The words of a table at the start: the claim word, and behind it the row words.
-fn behind_claims(alloc: Global, start: &[u64]) -> Result<Vec<u64>, Memory>
-    ensures { IfOk result (λ words. words.items ≡ 0 ∷ start.now) }
-{
-    let mut words = Vec::with_capacity(alloc, start.len() + 1)?;
-    words.push(0)?;
-    words.extend_from_slice(start)?;
-    Ok(words)
 }

@@ -48,7 +48,14 @@ impl Round {
         ensures used { IsUsed self.now seat.new.table_id seat.new.me }
         ensures raised { (added : Bool) × (seat.new.me.0 ≡ raised_view seat.old.me.0 added) }
     {
-        self.table.shared.fetch_or::<Raise>(seat, place + 1, word);
+        let shared = &self.table.shared;
+        let at = place + 1;
+        // An or of a word without a bit changes nothing: a load does the same, and takes the word's line from no other processor.
+        if word == 0 {
+            shared.load::<Raise>(seat, at);
+        } else {
+            shared.fetch_or::<Raise>(seat, at, word);
+        }
     }
 
     /// Raises the last word of the row of the piece in work, which is done then.

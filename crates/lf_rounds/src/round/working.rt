@@ -205,8 +205,8 @@ impl Round {
         Ok(())
     }
 
-    /// Works on a piece, and notes what was loaded. The row that was computed is kept for its name in the environment: where no other seat raises it, it is the one that is
-    /// loaded for the rules that read it.
+    /// Works on a piece, and notes what was loaded. The row that was computed is kept for its name in the environment: mostly nothing else raises it, and it is the one whose
+    /// words are loaded for the rules that read it.
     fn work_on(
         &self,
         alloc: Global,

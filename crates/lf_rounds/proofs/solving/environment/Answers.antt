@@ -41,7 +41,7 @@ loop-name-preserved c =
     let wide = c.words-width.result in
     let at : ℕ = k * wide in
     let cut : at + wide - at ≡ w = omega (arith, c.words-width.ensures) in
-    let taken : c.take_row.new.env ≡ with_row k row env = c.in_ok-take_row.ensures.taken ∙ ap (λ (x : ℕ × ℕ × List ℕ). with_row k (row_of_words u (take x.0 (drop (k * x.1) x.2))) env) (λ i. (cut i, c.words-width.ensures i, c.as_slice.ensures i)) in
+    let taken : c.take_row.new.env ≡ with_row k row env = c.in_ok-take_row.ensures.taken ∙ ap (λ (x : ℕ × ℕ × List ℕ). with_row k (row_of_words u (take x.0 (drop (k * x.1) x.2))) env) (λ i. (cut i, c.words-width.ensures i, c.row_words.ensures i)) in
     record {
       made = subst P (sym taken) (one_made u ns words k env within c.loop-name.invariant.made row refl);
       env = subst E (sym taken) (rows_put_are env k row there u c.loop-name.invariant.env (shape_of_words u (some_label u c.labels-labels.ensures.within.listing) (take w (drop (k * w) words))));

@@ -28,8 +28,8 @@ returns-clause-standing c =
     let t : Task = record { universe = u; rules = rules; reads = reads; pieces = settled.pieces; start = [] } in
     let M : List Loaded → Type 0 = λ notes. AreMadeBy t words notes in
     let kept = c.remember.ensures.kept t words refl (subst M (sym c.as_slice.ensures.value) (is.made t refl refl refl refl)) is.sums in
-    let C : ℕ × List (Option ℕ) → Type 0 = λ x. ((k : ℕ) → Contains c.args.all.now k → Contains due k ⊎ IsCurrent x.0 words reads x.1 k) in
-    let current = subst C (λ i. (c.words-width.ensures i, c.as_slice-2.ensures.value i)) c.in_ok-due.ensures.others in
+    let C : ℕ × List ℕ × List (Option ℕ) → Type 0 = λ x. ((k : ℕ) → Contains c.args.all.now k → Contains due k ⊎ IsCurrent x.0 x.1 reads x.2 k) in
+    let current = subst C (λ i. (c.words-width.ensures i, c.row_words-rows.ensures i, c.as_slice-2.ensures.value i)) c.in_ok-due.ensures.others in
     record {
       known = is.known;
       long = is.long;

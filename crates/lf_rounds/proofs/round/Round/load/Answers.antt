@@ -1,4 +1,4 @@
-use Rattle.std.proofs.Common.{◌+◌, ◌<◌, ℕ, List, length, ap, sym, ◌∙◌, arith}
+use Rattle.std.proofs.Common.{◌+◌, ◌<◌, length, ap, sym, ◌∙◌, arith}
 use Rattle.lf_board.specs.Seats.{BoardFacts}
 use Rattle.lf_rounds.specs.Facts.{RoundFacts}
 use Rattle.lf_rounds.specs.Rounds.{task_of}
@@ -12,10 +12,9 @@ load-requires c =
     let s = c.args.seat.now in
     let own = c.requires.used.own ∙ sym (ap (λ (f : RoundFacts). f.board) c.self.view_is) in
     let long = ap (λ (f : RoundFacts). length f.start) c.self.view_is in
-    let kept = ap (λ (l : List ℕ). length l) c.self.invariant.start in
     let within : c.args.place < length (task_of k).start = omega (arith, c.requires.place, long) in
-    (ap (λ (b : BoardFacts). b.table) own, omega (arith, c.requires.place, long, kept, c.self.invariant.words), may_load k s.id s.me c.args.place within c.requires.work.0 r.table_id.slots (c.args.place + 1) (omega arith) c.requires.work.1)
+    (ap (λ (b : BoardFacts). b.table) own, omega (arith, c.requires.place, long, c.self.invariant.words), may_load k s.id s.me c.args.place within c.requires.work.0 r.table_id.slots (c.args.place + 1) (omega arith) c.requires.work.1)
 
 pub overflow_add-place : goal.overflow_add-place
 overflow_add-place c =
-    omega (arith, c.requires.place, ap (λ (f : RoundFacts). length f.start) c.self.view_is, ap (λ (l : List ℕ). length l) c.self.invariant.start, c.self.invariant.fits)
+    omega (arith, c.requires.place, ap (λ (f : RoundFacts). length f.start) c.self.view_is, c.self.invariant.fits)

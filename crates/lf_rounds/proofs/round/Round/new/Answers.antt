@@ -11,12 +11,12 @@ pub of_due-requires-clause-others : goal.of_due-requires-clause-others
 of_due-requires-clause-others c = λ number r at e. inl (pieces_all (rule_trees c.args.rules.now) c.in_ok-pieces.pieces c.in_ok-pieces.ensures number r at e)
 
 pub of_due-requires-clause-words : goal.of_due-requires-clause-words
-of_due-requires-clause-words c = ap length c.in_ok-start.ensures ∙ c.requires.words
+of_due-requires-clause-words c = ap length (c.in_ok-start.ensures ∙ c.as_slice.ensures) ∙ c.requires.words
 
 pub of_due-requires-clause-below : goal.of_due-requires-clause-below
 of_due-requires-clause-below c =
     let B : List ℕ → Type 0 = λ words. IsBelowLeast c.args.universe.now (rule_trees c.args.rules.now) words in
-    subst B (sym c.in_ok-start.ensures) c.requires.below
+    subst B (sym (c.in_ok-start.ensures ∙ c.as_slice.ensures)) c.requires.below
 
 pub returns-clause-round : goal.returns-clause-round
 returns-clause-round c =
@@ -25,7 +25,7 @@ returns-clause-round c =
     record {
       universe = over.universe;
       rules = over.rules;
-      start = over.start ∙ c.in_ok-start.ensures;
+      start = over.start ∙ c.in_ok-start.ensures ∙ c.as_slice.ensures;
       pieces = subst P (sym over.pieces) c.in_ok-pieces.ensures;
       count = over.count;
       seats = over.seats;

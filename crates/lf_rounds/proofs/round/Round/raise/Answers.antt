@@ -1,9 +1,9 @@
-use Rattle.std.proofs.Common.{◌≡◌, ◌+◌, ◌<◌, ℕ, List, length, ap, sym, ◌∙◌, arith}
+use Rattle.std.proofs.Common.{◌≡◌, ◌+◌, ◌<◌, length, ap, sym, ◌∙◌, arith}
 use Rattle.lf_board.specs.Seats.{BoardFacts}
 use Rattle.lf_rounds.specs.Facts.{RoundFacts, task}
 use Rattle.lf_rounds.specs.Rounds.{noted, task_of}
 use Rattle.lf_rounds.specs.Tasks.{place_of, stored_word, width}
-use Rattle.lf_rounds.proofs.Allowed.{may_raise}
+use Rattle.lf_rounds.proofs.Allowed.{may_raise, may_raise_none}
 use Rattle.lf_rounds.proofs.round.Round.raise.Goals as goal
 
 pub fetch_or-requires : goal.fetch_or-requires
@@ -14,17 +14,34 @@ fetch_or-requires c =
     let v = s.me.0 in
     let own = c.requires.used.own ∙ sym (ap (λ (f : RoundFacts). f.board) c.self.view_is) in
     let long = ap (λ (f : RoundFacts). length f.start) c.self.view_is in
-    let kept = ap (λ (l : List ℕ). length l) c.self.invariant.start in
     let within : c.args.place < length (task_of k).start = omega (arith, c.requires.within, long) in
     let place : c.args.place ≡ place_of (task_of k) v.piece v.raised = c.requires.place ∙ sym (ap (λ (f : RoundFacts). place_of (task f) v.piece v.raised) c.self.view_is) in
     let word : c.args.word ≡ stored_word (task_of k) v.piece (noted (task_of k).start v.loads) v.raised =
     c.requires.word ∙ sym (ap (λ (f : RoundFacts). stored_word (task f) v.piece (noted f.start v.loads) v.raised) c.self.view_is) in
     let wide = ap (λ (f : RoundFacts). width (task f)) c.self.view_is in (
       ap (λ (b : BoardFacts). b.table) own,
-      omega (arith, c.requires.within, long, kept, c.self.invariant.words),
+      omega (arith, c.requires.within, long, c.self.invariant.words),
       may_raise k s.id s.me c.args.place within c.requires.work.0 c.self.invariant.task c.requires.used.live c.args.word place word r.table_id.slots (c.args.place + 1) (omega arith) (omega (arith, wide, c.requires.work.1)),
     )
 
-pub overflow_add-place : goal.overflow_add-place
-overflow_add-place c =
-    omega (arith, c.requires.within, ap (λ (f : RoundFacts). length f.start) c.self.view_is, ap (λ (l : List ℕ). length l) c.self.invariant.start, c.self.invariant.fits)
+pub load-requires : goal.load-requires
+load-requires c =
+    let r = c.self.inside.table.shared in
+    let k = r.key in
+    let s = c.args.seat.now in
+    let v = s.me.0 in
+    let own = c.requires.used.own ∙ sym (ap (λ (f : RoundFacts). f.board) c.self.view_is) in
+    let long = ap (λ (f : RoundFacts). length f.start) c.self.view_is in
+    let within : c.args.place < length (task_of k).start = omega (arith, c.requires.within, long) in
+    let place : c.args.place ≡ place_of (task_of k) v.piece v.raised = c.requires.place ∙ sym (ap (λ (f : RoundFacts). place_of (task f) v.piece v.raised) c.self.view_is) in
+    let word : c.args.word ≡ stored_word (task_of k) v.piece (noted (task_of k).start v.loads) v.raised =
+    c.requires.word ∙ sym (ap (λ (f : RoundFacts). stored_word (task f) v.piece (noted f.start v.loads) v.raised) c.self.view_is) in
+    let wide = ap (λ (f : RoundFacts). width (task f)) c.self.view_is in (
+      ap (λ (b : BoardFacts). b.table) own,
+      omega (arith, c.requires.within, long, c.self.invariant.words),
+      may_raise_none k s.id s.me c.args.place within c.requires.work.0 c.self.invariant.task c.requires.used.live c.args.word place word c.if-word-eq0.true r.table_id.slots (c.args.place + 1) (omega arith) (omega (arith, wide, c.requires.work.1)),
+    )
+
+pub overflow_add-at : goal.overflow_add-at
+overflow_add-at c =
+    omega (arith, c.requires.within, ap (λ (f : RoundFacts). length f.start) c.self.view_is, c.self.invariant.fits)

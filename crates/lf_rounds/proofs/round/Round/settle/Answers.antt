@@ -91,6 +91,3 @@ returns-clause-made c =
     let M : RoundFacts × List ℕ → Type 0 = λ x. AreMadeBy (task x.0) x.1 c.seat.inside.notes.items in
     let same : drop 1 last.0.words ≡ words = sym (c.in_ok-words.ensures.words ∙ ap (drop 1) (sym last.2)) in
     subst M (λ i. (c.self.view_is i, same i)) made
-
-pub returns-clause-start : goal.returns-clause-start
-returns-clause-start c = sym c.self.invariant.start ∙ ap (λ (f : RoundFacts). f.start) c.self.view_is
