@@ -1,15 +1,17 @@
 -- Which numbers of rules fit, by what was prepared.
-use Rattle.std.proofs.Common.{◌≡◌, ◌<◌, ◌+◌, ℕ, Bool, true, false, not, ◌&&◌, List, [], length, reverse, get_or, Option, Some, None, sym, ◌∙◌, ap, subst, arith}
+use Rattle.std.proofs.Common.{◌≡◌, ◌<◌, ◌+◌, ℕ, Bool, true, false, not, ◌&&◌, List, [], ◌∷◌, map, length, reverse, get_or, Option, Some, None, sym, ◌∙◌, ap, subst, arith}
 use Rattle.std.specs.Prelude.{slice_get}
-use Rattle.std.specs.List.{Contains, find}
+use Rattle.std.specs.List.{Contains, find, flat_map}
 use Rattle.std.proofs.lemmas.List.{get_or-map}
 use Rattle.std.proofs.lemmas.Option.{get_or_from_slice_get, slice_get_within}
 use Rattle.lf_ast.specs.Labels.{Bytes}
 use Rattle.lf_ast.specs.Rules.{RuleTree}
+use Rattle.lf_ast.specs.Tree.{parts_of, nodes}
 use Rattle.lf_deps.specs.views.Search.{numbers_of}
 use Rattle.lf_deps.proofs.Numbered.{of_numbers}
 use Rattle.lf_semantics.specs.ClassRows.{Sets}
 use Rattle.lf_semantics.specs.Environments.{records, recorded_row, rule_row}
+use Rattle.lf_semantics.specs.RowTable.{row_of}
 use Rattle.lf_trials.specs.Built.{fits}
 use Rattle.lf_trials.specs.Candidates.{labels_in}
 use Rattle.lf_trials.specs.Given.{Given, holds_texts}
@@ -18,6 +20,9 @@ use Rattle.lf_built.specs.declared.prepared.Prepared.{Prepared}
 use Rattle.lf_built.specs.views.Fitting.{IsFirstRule}
 use Rattle.lf_built.specs.views.Indexed.{IsPrepared, env_of, forks_of, trees_of, universe_of}
 use Rattle.lf_built.specs.views.Marking.{set_by}
+use Rattle.lf_built.specs.views.PartRows.{PartRows, part_rows}
+use Rattle.lf_built.specs.views.RuleRows.{own_or}
+use Rattle.lf_built.proofs.OwnRows.{as_many, begins, side_by_side}
 use Rattle.lf_built.proofs.FirstRules.{first_is, found_at, none_at}
 
 -- the rule isn't marked, and its row, as it is recorded, holds the texts
@@ -31,11 +36,28 @@ module _ (p : Prepared) (known : IsPrepared p) where
       ∙ get_or-map (recorded_row (universe_of p) (env_of p)) (trees_of p) k r d (slice_get_within (trees_of p) k r is)
       ∙ ap (recorded_row (universe_of p) (env_of p)) (get_or_from_slice_get (trees_of p) k r r is)
 
-  pub row_at : (k : ℕ) (r : RuleTree) (d : Sets) → slice_get (trees_of p) k ≡ Some r → get_or p.rows.items k d ≡ rule_row (universe_of p) (env_of p) r
-  row_at k r d is =
-      ap (λ (xs : List Sets). get_or xs k d) known.rows
-      ∙ get_or-map (rule_row (universe_of p) (env_of p)) (trees_of p) k r d (slice_get_within (trees_of p) k r is)
-      ∙ ap (rule_row (universe_of p) (env_of p)) (get_or_from_slice_get (trees_of p) k r r is)
+  told_at : (k : ℕ) (r : RuleTree) (x : PartRows) → slice_get (trees_of p) k ≡ Some r → x ≡ get_or p.parts.items k x → x.rows ≡ row_of (universe_of p) (env_of p) r.expr ∷ map (row_of (universe_of p) (env_of p)) (flat_map nodes (parts_of r.expr))
+  told_at k r x is e =
+      let Told : RuleTree → PartRows = λ (t : RuleTree). part_rows (universe_of p) (env_of p) (forks_of p) (nodes t.expr) in
+      let told : x ≡ Told r =
+      e ∙ ap (λ (xs : List PartRows). get_or xs k x) known.parts ∙ get_or-map Told (trees_of p) k r x (slice_get_within (trees_of p) k r is) ∙ ap Told (get_or_from_slice_get (trees_of p) k r r is) in
+      begins (universe_of p) (env_of p) r.expr x.rows (ap (λ (y : PartRows). y.rows) told)
+
+  pub row_within : (k : ℕ) (r : RuleTree) (x : PartRows) → slice_get (trees_of p) k ≡ Some r → x ≡ get_or p.parts.items k x → 0 < length x.rows
+  row_within k r x is e = omega (arith, ap length (told_at k r x is e))
+
+  -- what is told of the row of a rule beside that of its expression
+  abbrev IsOwn : RuleTree → Option Sets → Type 0
+  IsOwn r own = own_or own (row_of (universe_of p) (env_of p) r.expr) ≡ rule_row (universe_of p) (env_of p) r
+
+  pub own_there : length p.rows.items ≡ length (trees_of p)
+  own_there = as_many IsOwn (trees_of p) p.rows.items known.rows
+
+  pub row_at : (k : ℕ) (r : RuleTree) (x : PartRows) (own : Option Sets) → slice_get (trees_of p) k ≡ Some r → x ≡ get_or p.parts.items k x → own ≡ get_or p.rows.items k own
+      → own_or own (get_or x.rows 0 []) ≡ rule_row (universe_of p) (env_of p) r
+  row_at k r x own is e there =
+      ap (λ (rows : List Sets). own_or own (get_or rows 0 [])) (told_at k r x is e)
+      ∙ side_by_side IsOwn (trees_of p) p.rows.items k r own known.rows is there
 
   pub set_at : (k : ℕ) (r : RuleTree) (d : List Bool) → slice_get (trees_of p) k ≡ Some r → get_or p.set.items k d ≡ set_by (labels_in (universe_of p)) r
   set_at k r d is =

@@ -8,6 +8,7 @@ pub mod Fits
 pub mod KnownNames
 pub mod Marked
 pub mod OneMore
+pub mod OwnRows
 pub mod PartSizes
 pub mod PartSpots
 pub mod PartsTold

@@ -10,6 +10,13 @@ along f g [] (y ∷ ys) zip same = absurd zip
 along f g (x ∷ xs) [] zip same = absurd zip
 along {Z = Z} f g (x ∷ xs) (y ∷ ys) zip same = ap₂ (λ (z : Z) (l : List Z). z ∷ l) (same x y zip.0) (along f g xs ys zip.1 same)
 
+-- and what is known of each is known of the images
+pub images : {X Y Z : Type 0} {R : X → Y → Type 0} (Q : X → Z → Type 0) (f : Y → Z) (xs : List X) (ys : List Y) → AllZip R xs ys → ((x : X) (y : Y) → R x y → Q x (f y)) → AllZip Q xs (map f ys)
+images Q f [] [] zip each = tt
+images Q f [] (y ∷ ys) zip each = absurd zip
+images Q f (x ∷ xs) [] zip each = absurd zip
+images Q f (x ∷ xs) (y ∷ ys) zip each = (each x y zip.0, images Q f xs ys zip.1 each)
+
 -- what is taken off the end of one list stands first in the other
 pub moved : {X : Type 0} (old front : List X) (x y : X) (rows more : List X) → old ≡ front ++ x ∷ [] → y ≡ x → more ≡ rows ++ y ∷ [] → old ++ reverse rows ≡ front ++ reverse more
 moved {X = X} old front x y rows more taken is pushed =

@@ -15,7 +15,7 @@ ghost use Rattle.lf_built.specs.views.Spots.{IsSpot, tree_at};
 
 use crate::marking::{NodeMarks, marks_in_rules, set_by_rules};
 use crate::part_rows::PartRows;
-use crate::row_making::{RuleRow, rule_rows};
+use crate::row_making::{RuleRow, own_or, rule_rows};
 use crate::spots::Spot;
 use lf_ast::Rule;
 use lf_base::{Memory, Seq, Text};
@@ -27,7 +27,7 @@ use lf_forks::Forks;
 use std::alloc::Global;
 
 /// What the built worlds of rules share: the index of the rules, the names of the labels, what is told of the parts of each rule's expression, what is
-/// marked of the labels for these parts and for each rule, and the rows of each rule and of what it stores.
+/// marked of the labels for these parts and for each rule, and the rows of each rule and of what it stores. The row of a rule is that of its whole expression where it isn't told.
 #[derive(Drop)]
 pub struct Prepared<'a> {
     pub(crate) universe: &'a Universe,
@@ -39,7 +39,7 @@ pub struct Prepared<'a> {
     pub(crate) parts: Vec<PartRows>,
     pub(crate) marks: Vec<Seq<NodeMarks>>,
     pub(crate) set: Vec<Seq<bool>>,
-    pub(crate) rows: Vec<Row>,
+    pub(crate) rows: Vec<Option<Row>>,
     pub(crate) recorded: Vec<Row>,
 }
 
@@ -47,7 +47,7 @@ pub struct Prepared<'a> {
 #[derive(Drop)]
 struct RowLists {
     parts: Vec<PartRows>,
-    own: Vec<Row>,
+    own: Vec<Option<Row>>,
     recorded: Vec<Row>,
 }
 
@@ -185,7 +185,8 @@ impl<'a> Prepared<'a> {
         requires rule { rule < length self.now.rules.now }
         ensures { (r : RuleTree) → slice_get (trees_of self.now) rule ≡ Some r → result.now ≡ row_of_rule (universe_of self.now) (env_of self.now) r }
     {
-        &self.rows[rule]
+        let whole = self.parts[rule].row(0);
+        own_or(&self.rows[rule], whole)
     }
 
     /// The row of what a rule stores.

@@ -1,13 +1,15 @@
 //! The rows of rules.
-ghost use Rattle.std.specs.Prelude.{◌≡◌, ◌<◌, ◌≤◌, Some, length, slice_get, IfOk};
+ghost use Rattle.std.specs.Prelude.{◌≡◌, ◌<◌, ◌≤◌, None, Some, cond, length, slice_get, IfOk};
 ghost use Rattle.lf_ast.specs.Tree.{nodes};
 ghost use Rattle.lf_ast.specs.Rules.{RuleTree, rule_tree, rule_trees};
 ghost use Rattle.lf_deps.specs.views.Sources.{IsSourcesOf};
+ghost use Rattle.lf_semantics.specs.ClassRows.{is_live};
 ghost use Rattle.lf_semantics.specs.Environments.{IsEnvironment, recorded_row as row_recorded, rule_row as row_of_rule};
+ghost use Rattle.lf_semantics.specs.RowTable.{row_of as row_in};
 ghost use Rattle.lf_trials.specs.Forks.{has_passing};
 ghost use Rattle.lf_forks.specs.views.Holding.{test_of};
 ghost use Rattle.lf_built.specs.views.PartRows.{part_rows as rows_of_parts};
-ghost use Rattle.lf_built.specs.views.RuleRows.{AreRowsOf, IsRowOf};
+ghost use Rattle.lf_built.specs.views.RuleRows.{AreRowsOf, IsRowOf, own_or};
 
 use crate::part_rows::PartRows;
 use lf_ast::Rule;
@@ -25,11 +27,11 @@ const METRIC: u32 = 0;
 /// How many names of a rule are taken to be those of its rows. A row that has none of them takes a look at each in vain, and a rule may select thousands.
 const MOST_LIKELY: usize = 8;
 
-/// What is told of the parts of a rule's expression, and the rows of the rule and of what it stores.
+/// What is told of the parts of a rule's expression, and the rows of the rule and of what it stores. The row of a rule is that of the whole expression where it isn't told.
 #[derive(Drop)]
 pub struct RuleRow {
     pub(crate) parts: PartRows,
-    pub(crate) own: Row,
+    pub(crate) own: Option<Row>,
     pub(crate) recorded: Row,
 }
 
@@ -77,7 +79,7 @@ pub fn rule_rows(
     Ok(rows)
 }
 
-/// What is told of a rule. Its own row is that of its whole expression, which stands first among those of the parts.
+/// What is told of a rule. Its own row, where it isn't empty, is that of its whole expression, which stands first among those of the parts and isn't copied.
 fn row_of(
     alloc: Global,
     universe: &Universe,
@@ -88,20 +90,41 @@ fn row_of(
 ) -> Result<RuleRow, Memory>
     requires env { IsEnvironment universe.now env.now }
     ensures parts { IfOk result (λ row. row.parts ≡ rows_of_parts universe.now env.now (has_passing (test_of forks.now)) (nodes (rule_tree rule.now).expr)) }
-    ensures own { IfOk result (λ row. row.own ≡ row_of_rule universe.now env.now (rule_tree rule.now)) }
+    ensures own { IfOk result (λ row. own_or row.own (row_in universe.now env.now (rule_tree rule.now).expr) ≡ row_of_rule universe.now env.now (rule_tree rule.now)) }
     ensures recorded { IfOk result (λ row. row.recorded ≡ row_recorded universe.now env.now (rule_tree rule.now)) }
 {
     // For what its contract says of the universe.
     let _labels = universe.labels();
     let parts = PartRows::of(alloc, universe, env, forks, &rule.expr, likely)?;
-    let own = rule_row_by(alloc, universe, rule, parts.row(0))?;
-    let mut recorded = own.copy()?;
+    let mut recorded = rule_row_by(alloc, universe, rule, parts.row(0))?;
+    let own = if_empty(&recorded)?;
     make_recorded(universe, &mut recorded, rule);
     Ok(RuleRow {
         parts,
         own,
         recorded,
     })
+}
+
+/// A row where it is empty, and else nothing.
+fn if_empty(row: &Row) -> Result<Option<Row>, Memory>
+    ensures { IfOk result (λ own. own ≡ cond (is_live row.now) None (Some row.now)) }
+{
+    if row.is_empty() {
+        Ok(Some(row.copy()?))
+    } else {
+        Ok(None)
+    }
+}
+
+/// The row of a rule: its own where it is told, and else that of its whole expression.
+pub fn own_or<'a>(own: &'a Option<Row>, whole: &'a Row) -> &'a Row
+    ensures { result.now ≡ own_or own.entry.now whole.entry.now }
+{
+    match own {
+        Some(row) => row,
+        None => whole,
+    }
 }
 
 /// The classes of the first few names that a rule selects, each once. Rows of its parts are likely to have them, and which these are changes only how long it takes.

@@ -1,5 +1,6 @@
 -- What the built worlds of rules share: how contracts see the code. It defines nothing.
-use Rattle.std.specs.Prelude.{◌≡◌, Bool, List, map}
+use Rattle.std.specs.Prelude.{◌≡◌, Bool, List, Option, map}
+use Rattle.std.specs.List.{AllZip}
 use Rattle.lf_ast.specs.Rules.{RuleTree, rule_trees}
 use Rattle.lf_ast.specs.Tree.{Tree, nodes}
 use Rattle.lf_ast.specs.declared.rule.Rule.{Rule}
@@ -7,13 +8,15 @@ use Rattle.lf_classes.specs.Limits.{IsWithin}
 use Rattle.lf_deps.specs.views.Sources.{IsSourcesOf}
 use Rattle.lf_semantics.specs.Environments.{CoversRules, IsEnvironment, recorded_row, rule_row}
 use Rattle.lf_semantics.specs.Listing.{Listing}
-use Rattle.lf_semantics.specs.RowTable.{Environment}
+use Rattle.lf_semantics.specs.ClassRows.{Sets}
+use Rattle.lf_semantics.specs.RowTable.{Environment, row_of}
 use Rattle.lf_trials.specs.Candidates.{labels_in}
 use Rattle.lf_trials.specs.Forks.{has_passing}
 use Rattle.lf_forks.specs.views.Holding.{Forks, test_of}
 use Rattle.lf_built.specs.declared.prepared.Prepared.{Prepared}
 use Rattle.lf_built.specs.views.Marking.{marks_at, set_by}
 use Rattle.lf_built.specs.views.PartRows.{part_rows}
+use Rattle.lf_built.specs.views.RuleRows.{own_or}
 
 -- what it is of
 
@@ -40,7 +43,7 @@ pub record IsPrepared (p : Prepared) : Type 0 where
   pub parts : p.parts.items ≡ map (λ (r : RuleTree). part_rows (universe_of p) (env_of p) (forks_of p) (nodes r.expr)) (trees_of p)
   pub marks : p.marks.items ≡ map (λ (r : RuleTree). map (marks_at (labels_in (universe_of p))) (nodes r.expr)) (trees_of p)
   pub set : p.set.items ≡ map (set_by (labels_in (universe_of p))) (trees_of p)
-  pub rows : p.rows.items ≡ map (rule_row (universe_of p) (env_of p)) (trees_of p)
+  pub rows : AllZip (λ (r : RuleTree) (own : Option Sets). own_or own (row_of (universe_of p) (env_of p) r.expr) ≡ rule_row (universe_of p) (env_of p) r) (trees_of p) p.rows.items
   pub recorded : p.recorded.items ≡ map (recorded_row (universe_of p) (env_of p)) (trees_of p)
 
 -- it is prepared for these

@@ -1,21 +1,27 @@
 -- What is told of rules, one by one: how contracts see the code. It defines nothing.
-use Rattle.std.specs.Prelude.{◌≡◌, List}
+use Rattle.std.specs.Prelude.{◌≡◌, List, Option, Some, None}
 use Rattle.std.specs.List.{AllZip}
 use Rattle.lf_ast.specs.Rules.{RuleTree}
 use Rattle.lf_ast.specs.Tree.{nodes}
 use Rattle.lf_trials.specs.Forks.{has_passing}
 use Rattle.lf_forks.specs.views.Holding.{Forks, test_of}
+use Rattle.lf_semantics.specs.ClassRows.{Sets}
 use Rattle.lf_semantics.specs.Environments.{recorded_row, rule_row}
 use Rattle.lf_semantics.specs.Listing.{Listing}
-use Rattle.lf_semantics.specs.RowTable.{Environment}
+use Rattle.lf_semantics.specs.RowTable.{Environment, row_of}
 use Rattle.lf_built.specs.declared.row_making.RuleRow.{RuleRow}
 use Rattle.lf_built.specs.views.PartRows.{part_rows}
+
+-- the row of a rule: that of its whole expression where it isn't told
+abbrev pub own_or : Option Sets → Sets → Sets
+own_or None whole = whole
+own_or (Some row) whole = row
 
 module _ (u : Listing) (e : Environment) (forks : Forks) where
   -- this is told of a rule
   pub record IsRowOf (r : RuleTree) (row : RuleRow) : Type 0 where
     pub parts : row.parts ≡ part_rows u e (has_passing (test_of forks)) (nodes r.expr)
-    pub own : row.own ≡ rule_row u e r
+    pub own : own_or row.own (row_of u e r.expr) ≡ rule_row u e r
     pub recorded : row.recorded ≡ recorded_row u e r
 
   -- this is told of the rules, of each in its place

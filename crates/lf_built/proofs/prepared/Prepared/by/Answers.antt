@@ -1,16 +1,20 @@
-use Rattle.std.proofs.Common.{List, map, refl, ap, ◌∙◌}
+use Rattle.std.proofs.Common.{◌≡◌, List, Option, map, refl, sym, ap, ◌∙◌, subst}
+use Rattle.std.specs.List.{AllZip}
 use Rattle.lf_ast.specs.Labels.{Bytes}
 use Rattle.lf_ast.specs.Tree.{nodes}
 use Rattle.lf_ast.specs.Rules.{RuleTree, rule_trees}
 use Rattle.lf_ast.specs.declared.rule.Rule.{Rule}
+use Rattle.lf_semantics.specs.ClassRows.{Sets}
 use Rattle.lf_semantics.specs.Environments.{recorded_row, rule_row}
+use Rattle.lf_semantics.specs.RowTable.{row_of}
 use Rattle.lf_trials.specs.Candidates.{labels_in}
 use Rattle.lf_trials.specs.Forks.{has_passing}
 use Rattle.lf_forks.specs.views.Holding.{test_of}
 use Rattle.lf_built.specs.declared.row_making.RuleRow.{RuleRow}
 use Rattle.lf_built.specs.views.Marking.{marks_at, set_by}
 use Rattle.lf_built.specs.views.PartRows.{part_rows}
-use Rattle.lf_built.proofs.RowsApart.{along}
+use Rattle.lf_built.specs.views.RuleRows.{own_or}
+use Rattle.lf_built.proofs.RowsApart.{along, images}
 use Rattle.lf_built.proofs.prepared.Prepared.by.Goals as goal
 
 pub returns : goal.returns
@@ -19,6 +23,7 @@ returns c =
     let env = c.args.env.now in
     let forks = c.args.forks.now in
     let trees : List RuleTree = rule_trees c.args.rules.now in
+    let IsOwn : RuleTree → Option Sets → Type 0 = λ (r : RuleTree) (own : Option Sets). own_or own (row_of u env r.expr) ≡ rule_row u env r in
     record {
       universe = refl;
       env = refl;
@@ -39,7 +44,7 @@ returns c =
             c.in_ok-set.ensures
             ∙ ap (λ (names : List Bytes). map (set_by names) (rule_trees c.as_slice-all.result.now)) (c.as_slice-labels.ensures.value ∙ c.in_ok-names.ensures)
             ∙ ap (λ (rs : List Rule). map (set_by (labels_in u)) (rule_trees rs)) c.as_slice-all.ensures;
-        rows = c.in_ok-parts.ensures.own ∙ along (λ (row : RuleRow). row.own) (rule_row u env) trees c.args.rows c.requires.rows (λ r row is. is.own);
+        rows = subst (AllZip IsOwn trees) (sym c.in_ok-parts.ensures.own) (images IsOwn (λ (row : RuleRow). row.own) trees c.args.rows c.requires.rows (λ r row is. is.own));
         recorded = c.in_ok-parts.ensures.recorded ∙ along (λ (row : RuleRow). row.recorded) (recorded_row u env) trees c.args.rows c.requires.rows (λ r row is. is.recorded);
       };
     }
