@@ -1,5 +1,5 @@
 //! Numbers in ascending order.
-ghost use Rattle.std.specs.Prelude.{◌≡◌, ◌↔◌, ◌<◌, ℕ, [], true, length, slice_index, IfOk};
+ghost use Rattle.std.specs.Prelude.{◌≡◌, ◌↔◌, ◌<◌, ℕ, [], true, IfOk};
 ghost use Rattle.std.specs.List.{Contains};
 ghost use Rattle.lf_graph.specs.views.Listing.{Adds};
 ghost use Rattle.lf_laws.specs.Ascending.{AreAscending};

@@ -1,8 +1,8 @@
 //! The least environment by rounds.
-ghost use Rattle.std.specs.Prelude.{◌≡◌, ◌≢◌, ◌⊎◌, true, false, ◌*◌, ◌+◌, ◌<◌, ◌≤◌, drop, length, sum, take, IfOk};
+ghost use Rattle.std.specs.Prelude.{◌≡◌, ◌≢◌, ◌⊎◌, true, false, ◌*◌, ◌+◌, ◌<◌, ◌≤◌, length, sum, IfOk};
 ghost use Rattle.std.specs.Thread.{IsSync};
 ghost use Rattle.lf_ast.specs.Rules.{rule_trees};
-ghost use Rattle.lf_classes.specs.RowWords.{row_of_words, word_count};
+ghost use Rattle.lf_classes.specs.RowWords.{word_count};
 ghost use Rattle.lf_deps.specs.views.Sources.{IsSourcesOf};
 ghost use Rattle.lf_flow.specs.Reads.{names_of};
 ghost use Rattle.lf_semantics.specs.Environments.{CoversRules, IsEnvironment, IsEnvironmentOf, IsLeast};
@@ -27,7 +27,7 @@ use std::thread::{Threads, join};
 /// Of so many rounds the last has one worker.
 const TURNS: u32 = 2;
 
-/// Over how many words a round is shared at most. Each worker of a shared round has rows of all recorded names for itself, half a mebibyte at most by this; more would take it
+/// Over how many words a round is shared at most. Each worker of a shared round has rows of all recorded names for itself, of words of half a mebibyte at most by this; more would take it
 /// longer to make, and to load from the words, than it saves the others.
 const SHARED_WORDS: usize = 65_536;
 
