@@ -7,7 +7,6 @@ use crate::marks::Marks;
 use crate::spots::Spot;
 use lf_base::Memory;
 use lf_candidates::LabelTexts;
-use std::alloc::Global;
 
 /// What is to be done: to build an expression from these texts; or, once the expression of the rule that was marked last is built, to take its mark off and to add its step.
 #[derive(Drop)]
