@@ -8,7 +8,7 @@ use Rattle.lf_ast.specs.Labels.{Bytes}
 use Rattle.lf_ast.specs.declared.verdict.Verdict.{Verdict}
 use Rattle.lf_report.specs.Counts.{refused_count}
 use Rattle.lf_report.specs.Numbers.{numbered}
-use Rattle.lf_report.specs.Shown.{shown}
+use Rattle.lf_report.specs.views.Heads.{label_head}
 use Rattle.lf_base.specs.Lines.{lines_text}
 use Rattle.lf_report.specs.Text.{file_lines, finding_line, label_line, label_lines, rule_lines, totals_line, totals_lines, verdicts_line}
 use Rattle.lf_report.specs.declared.counting.Totals.{Totals}
@@ -88,21 +88,21 @@ module _ (report : Report) where
   lines_all (name ∷ names) (verdict ∷ said) (suc k) h i end =
       ap (λ (l : List Bytes). label_line report name verdict ∷ l) (lines_all names said k (omega arith) (omega arith) (λ a b. end (omega arith) (omega arith)))
 
-  pub label_lines_more : (names labels : List Bytes) (said : List Verdict) (k : ℕ) (label : Bytes) (here : Verdict) (start old new : Bytes) → labels ≡ map shown names → k < length labels → k < length said
+  pub label_lines_more : (names labels : List Bytes) (said : List Verdict) (k : ℕ) (label : Bytes) (here : Verdict) (start old new : Bytes) → labels ≡ map label_head names → k < length labels → k < length said
       → label ≡ get_or labels k label → here ≡ get_or said k here → old ≡ start ++ lines_text (label_lines report (take k names) (take k said))
-      → ((name : Bytes) → label ≡ shown name → new ≡ old ++ lines_text (label_line report name here ∷ [])) → new ≡ start ++ lines_text (label_lines report (take (k + 1) names) (take (k + 1) said))
+      → ((name : Bytes) → label ≡ label_head name → new ≡ old ++ lines_text (label_line report name here ∷ [])) → new ≡ start ++ lines_text (label_lines report (take (k + 1) names) (take (k + 1) said))
   label_lines_more names labels said k label here start old new shows inside among at is before pushed =
       let name = get_or names k [] in
-      let within : k < length names = omega (arith, ap length shows, length-map names shown) in
-      let label_is : label ≡ shown name = at ∙ ap (λ l. get_or l k label) shows ∙ get_or-map shown names k [] label within in
+      let within : k < length names = omega (arith, ap length shows, length-map names label_head) in
+      let label_is : label ≡ label_head name = at ∙ ap (λ l. get_or l k label) shows ∙ get_or-map label_head names k [] label within in
       appended_lines start (label_lines report (take k names) (take k said)) (label_line report name (get_or said k here) ∷ []) before
       (pushed name label_is ∙ ap (λ v. old ++ lines_text (label_line report name v ∷ [])) is)
       ∙ ap (λ l. start ++ lines_text l) (sym (lines_next names said k here within among))
 
-  pub label_lines_end : (names labels : List Bytes) (said : List Verdict) (k : ℕ) (start text : Bytes) → labels ≡ map shown names → k ≤ length labels → k ≤ length said → (k < length labels → k < length said → ⊥)
+  pub label_lines_end : (names labels : List Bytes) (said : List Verdict) (k : ℕ) (start text : Bytes) → labels ≡ map label_head names → k ≤ length labels → k ≤ length said → (k < length labels → k < length said → ⊥)
       → text ≡ start ++ lines_text (label_lines report (take k names) (take k said)) → text ≡ start ++ lines_text (label_lines report names said)
   label_lines_end names labels said k start text shows h i end before =
-      let len : length labels ≡ length names = ap length shows ∙ length-map names shown in
+      let len : length labels ≡ length names = ap length shows ∙ length-map names label_head in
       before ∙ ap (λ l. start ++ lines_text l) (lines_all names said k (omega (arith, len)) i (λ a b. end (omega (arith, len)) b))
 
 module _ (it : FileReport) where

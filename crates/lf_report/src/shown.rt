@@ -58,14 +58,3 @@ fn push_escaped(text: &mut String, c: char) -> Result<(), Memory>
     write!(text, "\\x{code:02x}")?;
     Ok(())
 }
-
-/// The names, each as a report shows it.
-pub fn shown_names(alloc: Global, names: &[Text]) -> Result<Seq<Text>, Memory>
-    ensures { IfOk result (λ texts. texts ≡ map shown names.now) }
-{
-    let mut texts = Seq::new(alloc);
-    for name in names {
-        texts.push(shown_name(alloc, name.as_str())?)?;
-    }
-    Ok(texts)
-}

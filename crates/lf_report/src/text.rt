@@ -2,10 +2,10 @@
 ghost use Rattle.std.specs.Prelude.{◌≡◌, ◌<◌, ◌++◌, ◌∷◌, [], length, map, slice_get, Some, IfOk, OnOk};
 ghost use Rattle.std.specs.List.{flat_map};
 ghost use Rattle.lf_report.specs.Numbers.{NameRules, NameRulesBelow, StandInFiles, labels_in, labels_of, rules_of};
-ghost use Rattle.lf_report.specs.Shown.{shown};
 ghost use Rattle.lf_base.specs.Lines.{lines_text};
 ghost use Rattle.lf_report.specs.Text.{file_lines, files_lines, finding_line, report_text, rule_line, rule_lines, said_lines, totals_lines, verdict_lines};
 ghost use Rattle.lf_report.specs.declared.report.FileReport.{FileReport};
+ghost use Rattle.lf_report.specs.views.Heads.{label_head};
 ghost use Rattle.lf_report.specs.views.Lookups.{IsLookup};
 ghost use Rattle.lf_report.specs.views.LineIndex.{AreIndexed};
 ghost use Rattle.lf_report.specs.views.Totals.{AreTotals};
@@ -16,9 +16,9 @@ mod lines;
 use crate::counting::Totals;
 use crate::line_index::LineIndex;
 use crate::places::{Lookup, Naming, numbers_at, place_in};
-use crate::shown::{shown_name, shown_names};
+use crate::shown::shown_name;
 use crate::{Report, ReportedFinding, RuleReport};
-use labels::push_labels;
+use labels::{label_heads, push_labels};
 use lf_ast::RuleVerdicts;
 use lf_base::{Memory, Text};
 use lines::{
@@ -43,7 +43,7 @@ fn looked_up(alloc: Global, report: &Report, lookup: &Lookup) -> Result<Text, Me
     requires lookup { IsLookup report.now lookup.now }
     ensures { IfOk result (λ text. text ≡ report_text report.now) }
 {
-    let labels = shown_names(alloc, report.universe.as_slice())?;
+    let labels = label_heads(alloc, report.universe.as_slice())?;
     let totals = Totals::of(report.rules.as_slice())?;
     let mut text = Text::of(alloc, "")?;
     push_files(alloc, &mut text, report, lookup, labels.as_slice())?;
@@ -51,7 +51,7 @@ fn looked_up(alloc: Global, report: &Report, lookup: &Lookup) -> Result<Text, Me
     Ok(text)
 }
 
-/// Appends what is told of all files. `labels` are those of the universe, as they are shown.
+/// Appends what is told of all files. `labels` are how the lines of the labels begin.
 fn push_files(
     alloc: Global,
     text: &mut Text,
@@ -62,7 +62,7 @@ fn push_files(
     requires files { StandInFiles report.now }
     requires rules { NameRules report.now }
     requires lookup { IsLookup report.now lookup.now }
-    requires labels { labels.now ≡ map shown report.now.universe }
+    requires labels { labels.now ≡ map label_head report.now.universe }
     ensures { OnOk result (text.new ≡ text.old ++ lines_text (files_lines report.now)) }
 {
     for k in 0..report.files.len() {
@@ -84,7 +84,7 @@ fn push_file(
     requires files { StandInFiles report.now }
     requires rules { NameRules report.now }
     requires lookup { IsLookup report.now lookup.now }
-    requires labels { labels.now ≡ map shown report.now.universe }
+    requires labels { labels.now ≡ map label_head report.now.universe }
     ensures { (it : FileReport) → slice_get report.now.files file ≡ Some it → OnOk result (text.new ≡ text.old ++ lines_text (file_lines report.now file it it.refusal)) }
 {
     match &report.files.get(file).refusal {
@@ -110,7 +110,7 @@ fn push_rules(
     requires files { StandInFiles report.now }
     requires rules { NameRules report.now }
     requires lookup { IsLookup report.now lookup.now }
-    requires labels { labels.now ≡ map shown report.now.universe }
+    requires labels { labels.now ≡ map label_head report.now.universe }
     ensures { (it : FileReport) → slice_get report.now.files file ≡ Some it → OnOk result (text.new ≡ text.old ++ lines_text (flat_map (rule_lines report.now it) (rules_of report.now file))) }
 {
     let numbers = numbers_at(lookup, file);
@@ -136,7 +136,7 @@ fn push_rule(
     requires files { StandInFiles report.now }
     requires rules { NameRulesBelow (length report.now.rules) (labels_of rule.now.verdicts) }
     requires indexes { AreIndexed report.now.files indexes.now }
-    requires labels { labels.now ≡ map shown report.now.universe }
+    requires labels { labels.now ≡ map label_head report.now.universe }
     ensures { (it : FileReport) → slice_get report.now.files file ≡ Some it → OnOk result (text.new ≡ text.old ++ lines_text (rule_lines report.now it rule.now)) }
 {
     push_verdicts(alloc, text, report, indexes, labels, file, rule)?;
@@ -157,7 +157,7 @@ fn push_verdicts(
     requires files { StandInFiles report.now }
     requires rules { NameRulesBelow (length report.now.rules) (labels_of rule.now.verdicts) }
     requires indexes { AreIndexed report.now.files indexes.now }
-    requires labels { labels.now ≡ map shown report.now.universe }
+    requires labels { labels.now ≡ map label_head report.now.universe }
     ensures { (it : FileReport) → slice_get report.now.files file ≡ Some it → OnOk result (text.new ≡ text.old ++ lines_text (verdict_lines report.now it rule.now rule.now.verdicts)) }
 {
     match &rule.verdicts {
@@ -181,7 +181,7 @@ fn push_said(
     requires files { StandInFiles report.now }
     requires rules { NameRulesBelow (length report.now.rules) (labels_in verdicts.now) }
     requires indexes { AreIndexed report.now.files indexes.now }
-    requires labels { labels.now ≡ map shown report.now.universe }
+    requires labels { labels.now ≡ map label_head report.now.universe }
     ensures { OnOk result (text.new ≡ text.old ++ lines_text (said_lines report.now verdicts.now)) }
 {
     match verdicts {

@@ -3,6 +3,7 @@ pub mod Absences
 pub mod Answered
 pub mod Joins
 pub mod Operands
+pub mod OnlyOne
 pub mod Replacements
 pub mod Times
 pub mod Filtered

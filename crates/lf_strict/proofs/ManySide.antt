@@ -28,7 +28,7 @@ use Rattle.lf_witness.specs.Strict.{HasTwoAlike, IsAmbiguous, IsPair, MadeApart,
 use Rattle.lf_witness.specs.StrictRuns.{InOrder}
 use Rattle.lf_witness.proofs.AscendingLists.{head_less, less_itself, tail_ascends}
 use Rattle.lf_strict.specs.views.Apart.{AreApart}
-use Rattle.lf_strict.specs.views.Paired.{IsIndex, ManyPairs, result_of, signature_of, with_one, with_partner}
+use Rattle.lf_strict.specs.views.Paired.{FindsEach, IsIndex, ManyPairs, result_of, signature_of, with_found, with_partner}
 use Rattle.lf_strict.proofs.Filtered.{ascending_filter}
 use Rattle.lf_strict.proofs.MadeApart.{made_apart}
 use Rattle.lf_strict.proofs.Signatures.{one_signature, same_signature}
@@ -94,20 +94,20 @@ module _ (m : Matching) (xs : List Labels) (k : ℕ) (x : Labels) (lt : k < leng
           (subst (λ (l : List Labels). Contains l t) (sym took) (Contains-append_left (take k xs) (x ∷ []) t before.0), before.1)
 
 -- no two have equal signatures
-pub none_alike : (m : Matching) (Q : List Labels) (ones : BTreeMap Labels Labels) → IsIndex m Q ones → HasTwoAlike m Q → ⊥
-none_alike m Q ones index (s, t, a, b, apart, same) =
+pub none_alike : (m : Matching) (Q : List Labels) (look : Labels → Option Labels) → FindsEach m Q look → HasTwoAlike m Q → ⊥
+none_alike m Q look index (s, t, a, b, apart, same) =
     let one = index.1 s a in
     let other = index.1 t b in
-    apart (some_same s t (sym one.1 ∙ subst (λ z. get labels_cmp ones z ≡ Some t) (sym (one_signature m s t one.0 other.0 same)) other.1))
+    apart (some_same s t (sym one.1 ∙ subst (λ z. look z ≡ Some t) (sym (one_signature m s t one.0 other.0 same)) other.1))
 
 -- the results of the many side
 
-module _ (op : Op) (m : Matching) (P Q partnered : List Labels) (ones : BTreeMap Labels Labels) (index : IsIndex m Q ones) (are : AreMatched m P Q partnered) where
+module _ (op : Op) (m : Matching) (P Q partnered : List Labels) (look : Labels → Option Labels) (index : FindsEach m Q look) (are : AreMatched m P Q partnered) where
   abbrev Becomes : Labels → Labels → Type 0
-  Becomes s r = (r ≡ with_partner op m s (get labels_cmp ones (signature_of m s))) × HasTexts s
+  Becomes s r = (r ≡ with_partner op m s (look (signature_of m s))) × HasTexts s
 
-  found : (s t : Labels) → HasTexts s → IsPair m P Q s t → get labels_cmp ones (signature_of m s) ≡ Some t
-  found s t full pair = let there = index.1 t pair.1 in subst (λ z. get labels_cmp ones z ≡ Some t) (sym (one_signature m s t full there.0 pair.2)) there.1
+  found : (s t : Labels) → HasTexts s → IsPair m P Q s t → look (signature_of m s) ≡ Some t
+  found s t full pair = let there = index.1 t pair.1 in subst (λ z. look z ≡ Some t) (sym (one_signature m s t full there.0 pair.2)) there.1
 
   gives : (s t r : Labels) → IsPair m P Q s t → Becomes s r → r ≡ result_of m.group op m s t
   gives s t r pair is = is.0 ∙ ap (with_partner op m s) (found s t is.1 pair)
@@ -126,7 +126,7 @@ module _ (op : Op) (m : Matching) (P Q partnered : List Labels) (ones : BTreeMap
         λ r c. let from = given.0.0.1 r c in let p = pair_of from.0 from.1 in (from.0, p.0, p.1, gives from.0 p.0 r p.1 from.2),
         λ s t pair. let made = given.0.0.0 s (are.0 s pair.0 (t, pair.1, pair.2)) in subst (Contains R) (gives s t made.0 pair made.1) made.2,
       ),
-      none_alike m Q ones index,
+      none_alike m Q look index,
       λ two. together two.0 two.1 two.2 two.3 two.4 two.5 two.6 two.7,
     ),
     given.1,
@@ -141,44 +141,44 @@ module _ (op : Op) (m : Matching) (P Q partnered : List Labels) (ones : BTreeMap
           let equal = gives s t one.0 p one.1 ∙ same ∙ sym (gives u v other.0 q other.1) in
           let apart : s ≢ u = elim differ [
             | inl many ↦ many
-            | inr ones_differ ↦ (λ e. ones_differ (some_same t v (sym (found s t one.1.1 p) ∙ subst (λ z. get labels_cmp ones (signature_of m z) ≡ Some v) (sym e) (found u v other.1.1 q))))
+            | inr ones_differ ↦ (λ e. ones_differ (some_same t v (sym (found s t one.1.1 p) ∙ subst (λ z. look (signature_of m z) ≡ Some v) (sym e) (found u v other.1.1 q))))
           ] in
           given.0.1 (s, u, one.0, a, b, apart, one.1, subst (Becomes u) (sym equal) other.1)
 
 -- the same of a list of the results, which may have one of them twice
 
-module _ (op : Op) (m : Matching) (P Q made : List Labels) (ones : BTreeMap Labels Labels) (index : IsIndex m Q ones) (texts : (s : Labels) → Contains P s → HasTexts s) where
+module _ (op : Op) (m : Matching) (P Q made : List Labels) (look : Labels → Option Labels) (index : FindsEach m Q look) (texts : (s : Labels) → Contains P s → HasTexts s) where
   abbrev has_one : Labels → Bool
-  has_one s = is_some (get labels_cmp ones (signature_of m s))
+  has_one s = is_some (look (signature_of m s))
 
   are_matched : AreMatched m P Q (filter has_one P)
   are_matched = (
     λ s c partner.
         let there = index.1 partner.0 partner.1 in
         let full = texts s c in
-        let got : get labels_cmp ones (signature_of m s) ≡ Some partner.0 = subst (λ z. get labels_cmp ones z ≡ Some partner.0) (sym (one_signature m s partner.0 full there.0 partner.2)) there.1 in
+        let got : look (signature_of m s) ≡ Some partner.0 = subst (λ z. look z ≡ Some partner.0) (sym (one_signature m s partner.0 full there.0 partner.2)) there.1 in
         in_filter has_one P s c (ap is_some got),
     λ s c.
         let own = of_filter has_one P s c in
-        let there = is_there (get labels_cmp ones (signature_of m s)) own.1 in
+        let there = is_there (look (signature_of m s)) own.1 in
         let from = index.0 (signature_of m s) there.0 there.1 in
         (own.0, (there.0, from.0, same_signature m s there.0 from.1)),
   )
 
-  gives_each : (xs : List Labels) → ((s : Labels) → Contains xs s → HasTexts s) → AllZip (Becomes op m P Q (filter has_one P) ones index are_matched) (filter has_one xs) (flat_map (with_one op m ones) xs)
+  gives_each : (xs : List Labels) → ((s : Labels) → Contains xs s → HasTexts s) → AllZip (Becomes op m P Q (filter has_one P) look index are_matched) (filter has_one xs) (flat_map (with_found op m look) xs)
   gives_each [] full = tt
-  gives_each (x ∷ xs) full = by (get labels_cmp ones (signature_of m x)) refl (gives_each xs (λ s c. full s (behind x xs s c)))
+  gives_each (x ∷ xs) full = by (look (signature_of m x)) refl (gives_each xs (λ s c. full s (behind x xs s c)))
     where
-      by : (o : Option Labels) → get labels_cmp ones (signature_of m x) ≡ o → AllZip (Becomes op m P Q (filter has_one P) ones index are_matched) (filter has_one xs) (flat_map (with_one op m ones) xs)
-          → AllZip (Becomes op m P Q (filter has_one P) ones index are_matched) (cond (is_some o) (x ∷ filter has_one xs) (filter has_one xs)) (option_to_list (option_map (result_of m.group op m x) o) ++ flat_map (with_one op m ones) xs)
+      by : (o : Option Labels) → look (signature_of m x) ≡ o → AllZip (Becomes op m P Q (filter has_one P) look index are_matched) (filter has_one xs) (flat_map (with_found op m look) xs)
+          → AllZip (Becomes op m P Q (filter has_one P) look index are_matched) (cond (is_some o) (x ∷ filter has_one xs) (filter has_one xs)) (option_to_list (option_map (result_of m.group op m x) o) ++ flat_map (with_found op m look) xs)
       by (Some t) e rest = ((ap (with_partner op m x) (sym e), full x (here x xs)), rest)
       by None e rest = rest
 
-  pub listed_pairs : IsAscending P → made ≡ flat_map (with_one op m ones) P → (o : Option (List Labels)) → AreApart made o → InOrder (ManyPairs op m P Q) o
+  pub listed_pairs : IsAscending P → made ≡ flat_map (with_found op m look) P → (o : Option (List Labels)) → AreApart made o → InOrder (ManyPairs op m P Q) o
   listed_pairs ascends is o apart =
-      many_pairs op m P Q (filter has_one P) ones index are_matched o
-      (made_apart (Becomes op m P Q (filter has_one P) ones index are_matched) (λ s t u a b. a.0 ∙ sym b.0) (filter has_one P) made (ascending_filter has_one P ascends)
-      (subst (AllZip (Becomes op m P Q (filter has_one P) ones index are_matched) (filter has_one P)) (sym is) (gives_each P texts)) o apart)
+      many_pairs op m P Q (filter has_one P) look index are_matched o
+      (made_apart (Becomes op m P Q (filter has_one P) look index are_matched) (λ s t u a b. a.0 ∙ sym b.0) (filter has_one P) made (ascending_filter has_one P ascends)
+      (subst (AllZip (Becomes op m P Q (filter has_one P) look index are_matched) (filter has_one P)) (sym is) (gives_each P texts)) o apart)
 
 -- by the side that is the many side
 

@@ -9,7 +9,7 @@ ghost use Rattle.lf_witness.specs.StrictRuns.{InOrder, IsStrictAnswer};
 ghost use Rattle.lf_strict.specs.views.Paired.{ManyPairs};
 
 use crate::apart::apart;
-use crate::partners::{each_paired, indexed};
+use crate::partners::{each_paired, each_with, indexed};
 use crate::signature::{are_apart, by_partner, either};
 use lf_ast::{Group, LabelSet, Matching, Op};
 use lf_base::{Memory, Seq};
@@ -96,7 +96,7 @@ fn one_to_one(
     }
 }
 
-/// What the pairs of a many side and a one side give, in ascending order. Each sample of the many side looks up its partner by the signature.
+/// What the pairs of a many side and a one side give, in ascending order. Each sample of the many side looks up its partner by the signature, where there are more than one.
 fn many_to_one(
     alloc: Global,
     op: Op,
@@ -108,6 +108,10 @@ fn many_to_one(
     requires one { IsAscending one.now }
     ensures { IfOk result (InOrder (ManyPairs op matching.now many.now one.now)) }
 {
+    if one.len() == 1 {
+        let made = each_with(alloc, op, matching, many.as_slice(), one.get(0))?;
+        return Ok(apart(made));
+    }
     match indexed(alloc, matching, one.as_slice())? {
         None => Ok(None),
         Some(ones) => {

@@ -4,7 +4,7 @@ ghost use Rattle.std.specs.List.{Contains, flat_map};
 ghost use Rattle.lf_ast.specs.Labels.{Labels};
 ghost use Rattle.lf_semantics.specs.Texts.{HasTexts};
 ghost use Rattle.lf_witness.specs.Ascending.{IsAscending};
-ghost use Rattle.lf_strict.specs.views.Paired.{AreIndexed, with_one};
+ghost use Rattle.lf_strict.specs.views.Paired.{AreIndexed, signature_of, with_one, with_only};
 
 use crate::choosing::SignatureLabels;
 use crate::pair_labels::pair_result;
@@ -66,6 +66,49 @@ fn push_paired(
     let _count = sample.len();
     let signature = sample.kept(&SignatureLabels { matching })?;
     if let Some(one) = ones.get(&signature) {
+        made.push(pair_result(alloc, op, matching, sample, one)?)?;
+    }
+    Ok(())
+}
+
+/// What the samples of the many side give with the only sample of the one side. One that has another signature gives nothing.
+pub fn each_with(
+    alloc: Global,
+    op: Op,
+    matching: &Matching,
+    many: &[LabelSet],
+    one: &LabelSet,
+) -> Result<Vec<LabelSet>, Memory>
+    ensures made { IfOk result (λ made. made.items ≡ flat_map (with_only op matching.now one.now) many.now) }
+    ensures texts { IfOk result (λ made. (s : Labels) → Contains many.now s → HasTexts s) }
+    ensures one { IfOk result (λ made. HasTexts one.now) }
+{
+    let _count = one.len();
+    let signature = one.kept(&SignatureLabels { matching })?;
+    let mut made = Vec::with_capacity(alloc, many.len())?;
+    for sample in many {
+        push_with(op, matching, sample, one, &signature, alloc, &mut made)?;
+    }
+    Ok(made)
+}
+
+/// Appends what a sample of the many side gives with one of the one side, if that has the same signature.
+fn push_with(
+    op: Op,
+    matching: &Matching,
+    sample: &LabelSet,
+    one: &LabelSet,
+    signature: &LabelSet,
+    alloc: Global,
+    made: &mut Vec<LabelSet>,
+) -> Result<(), Memory>
+    requires { signature.now ≡ signature_of matching.now one.now }
+    ensures made { OnOk result (made.new.items ≡ made.old.items ++ with_only op matching.now one.now sample.now) }
+    ensures texts { OnOk result (HasTexts sample.now) }
+{
+    let _count = sample.len();
+    let own = sample.kept(&SignatureLabels { matching })?;
+    if own == *signature {
         made.push(pair_result(alloc, op, matching, sample, one)?)?;
     }
     Ok(())

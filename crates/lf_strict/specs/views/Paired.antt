@@ -1,7 +1,8 @@
 -- Pairs of a many side and a one side, as the code matches them: the one side under its signatures, and what a pair gives.
-use Rattle.std.specs.Prelude.{◌≡◌, ◌≢◌, ◌⊎◌, List, Option, Some, None}
+use Rattle.std.specs.Prelude.{◌≡◌, ◌≢◌, ◌⊎◌, cond, List, [], ◌∷◌, Option, Some, None}
 use Rattle.std.specs.BTreeMap.{BTreeMap, get}
 use Rattle.std.specs.List.{Contains}
+use Rattle.std.specs.Ordering.{eq_by_cmp}
 use Rattle.std.specs.Option.{option_map, option_to_list}
 use Rattle.lf_ast.specs.Labels.{Labels}
 use Rattle.lf_ast.specs.declared.expr.Group.{Group}
@@ -16,11 +17,15 @@ use Rattle.lf_witness.specs.Strict.{HasTwoAlike, IsPair, Outcomes}
 abbrev pub signature_of : Matching → Labels → Labels
 signature_of m s = restricted (signs m) s
 
+-- by its signature each sample is found, and no other
+abbrev pub FindsEach : Matching → List Labels → (Labels → Option Labels) → Type 0
+FindsEach m Q found =
+    ((k t : Labels) → found k ≡ Some t → Contains Q t × (k ≡ signature_of m t))
+    × ((t : Labels) → Contains Q t → HasTexts t × (found (signature_of m t) ≡ Some t))
+
 -- the map has each sample under its signature, and no other
 abbrev pub IsIndex : Matching → List Labels → BTreeMap Labels Labels → Type 0
-IsIndex m Q ones =
-    ((k t : Labels) → get labels_cmp ones k ≡ Some t → Contains Q t × (k ≡ signature_of m t))
-    × ((t : Labels) → Contains Q t → HasTexts t × (get labels_cmp ones (signature_of m t) ≡ Some t))
+IsIndex m Q ones = FindsEach m Q (get labels_cmp ones)
 
 -- such a map, and None where two samples have equal signatures
 abbrev pub AreIndexed : Matching → List Labels → Option (BTreeMap Labels Labels) → Type 0
@@ -39,8 +44,16 @@ with_partner op m many None = many
 with_partner op m many (Some one) = result_of m.group op m many one
 
 -- the result of a sample of the many side, if it has a partner
+abbrev pub with_found : Op → Matching → (Labels → Option Labels) → Labels → List Labels
+with_found op m found s = option_to_list (option_map (result_of m.group op m s) (found (signature_of m s)))
+
+-- the same by a map of the one side
 abbrev pub with_one : Op → Matching → BTreeMap Labels Labels → Labels → List Labels
-with_one op m ones s = option_to_list (option_map (result_of m.group op m s) (get labels_cmp ones (signature_of m s)))
+with_one op m ones s = with_found op m (get labels_cmp ones) s
+
+-- the same where the one side has this sample alone
+abbrev pub with_only : Op → Matching → Labels → Labels → List Labels
+with_only op m one s = cond (eq_by_cmp labels_cmp (signature_of m s) (signature_of m one)) (result_of m.group op m s one ∷ []) []
 
 -- two pairs have one result
 abbrev pub ManyCoincide : Op → Matching → List Labels → List Labels → Type 0

@@ -9,8 +9,8 @@ loop-k-preserved c = λ names shows.
     let k = c.loop-k.k in
     let inside : k < length labels = omega (arith, c.loop-k-test.true, c.min-k-end.ensures) in
     let among : k < length said = omega (arith, c.loop-k-test.true, c.min-k-end.ensures) in
-    label_lines_more c.args.report.now names labels said k c.as_str-label.result.now c.index-verdicts-k.result c.args.text.now c.loop-k.text c.push_label.new.text
-    shows inside among (c.as_str-label.ensures ∙ c.index-labels-k.is ∙ ap (λ x. get_or labels k x) (sym c.as_str-label.ensures)) c.index-verdicts-k.is (c.loop-k.invariant names shows) c.in_ok-push_label.ensures
+    label_lines_more c.args.report.now names labels said k c.as_str-head.result.now c.index-verdicts-k.result c.args.text.now c.loop-k.text c.push_label.new.text
+    shows inside among (c.as_str-head.ensures ∙ c.index-labels-k.is ∙ ap (λ x. get_or labels k x) (sym c.as_str-head.ensures)) c.index-verdicts-k.is (c.loop-k.invariant names shows) c.in_ok-push_label.ensures
 
 pub returns : goal.returns
 returns c = λ names shows.
