@@ -148,7 +148,8 @@ fn reports_of(
     ensures { IfOk result (TellsRulesAt hand.now true) }
 {
     let mut taken = taken_out(alloc, found)?;
-    let mut told = Seq::new(alloc);
+    let room = Vec::with_capacity(alloc, taken.len())?;
+    let mut told = Seq::from_vec(room);
     while let Some(next) = taken.pop() {
         let number = told.len();
         let first = first_at(firsts, number);

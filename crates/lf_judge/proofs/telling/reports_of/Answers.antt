@@ -1,4 +1,4 @@
-use Rattle.std.proofs.Common.{◌≡◌, ℕ, [], length, reverse, true, sym, ap, subst, arith}
+use Rattle.std.proofs.Common.{◌≡◌, ℕ, [], length, reverse, true, sym, ◌∙◌, ap, subst, arith}
 use Rattle.std.proofs.lemmas.List.{length-map, length-reverse}
 use Rattle.lf_ast.specs.Rules.{rule_tree}
 use Rattle.lf_open.specs.OpenList.{IsFirstOpen}
@@ -36,7 +36,7 @@ pub loop-next-init : goal.loop-next-init
 loop-next-init c =
     let hand = c.args.hand.now in
     let firsts = c.args.firsts.now in
-    let none : c.new-told.result ≡ [] = c.new-told.ensures in
+    let none : c.from_vec-told.result ≡ [] = c.from_vec-told.ensures ∙ c.in_ok-room.ensures.items in
     let taken = c.in_ok-taken.taken in
     record {
       count = omega (arith, ap length none, ap length c.in_ok-taken.ensures, length-reverse c.args.found, c.requires.found.count);
