@@ -1,4 +1,5 @@
 pub mod Answering
+pub mod Quotes
 pub mod FileList
 pub mod Least
 pub mod KeyedOrder

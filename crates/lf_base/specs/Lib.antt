@@ -10,4 +10,5 @@ pub mod Outside
 pub mod Places
 pub mod Rows
 pub mod formers
+pub mod reading
 pub mod views

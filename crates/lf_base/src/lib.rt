@@ -18,6 +18,7 @@ mod outside;
 mod place;
 mod refusal;
 mod seq;
+mod strings;
 mod text;
 
 pub use fault::Fault;
@@ -31,4 +32,5 @@ pub use outside::{Failed, Files, Gate, OpenGate, Sink};
 pub use place::{Place, Span, place_of};
 pub use refusal::Refusal;
 pub use seq::Seq;
+pub use strings::closing;
 pub use text::Text;

@@ -14,7 +14,7 @@ use Rattle.lf_semantics.specs.Listing.{Listing, class_of, other_class}
 use Rattle.lf_semantics.specs.Passing.{passes}
 use Rattle.lf_semantics.specs.RowTable.{text_of}
 use Rattle.lf_semantics.proofs.Places.{eqb-other, text_at_class}
-use Rattle.lf_semantics.proofs.RowLaws.{holds-remade, holds_within, length_remade, live_when, shape_normalized, shape_remade}
+use Rattle.lf_semantics.proofs.RowLaws.{full_at, holds-remade, holds_within, length_remade, live_when, shape_normalized, shape_remade}
 use Rattle.lf_semantics.proofs.RowSets.{emptied_holds, live_at}
 use Rattle.lf_classes.specs.Limits.{IsWithin}
 use Rattle.lf_classes.specs.views.PatternCache.{passing_row}
@@ -22,7 +22,7 @@ use Rattle.lf_trials.specs.Names.{passes_as_name}
 use Rattle.lf_candidates.specs.views.ClassTexts.{HasPassing, text_at}
 use Rattle.lf_candidates.proofs.FirstClass.{candidate_at}
 use Rattle.lf_candidates.proofs.Labelled.{some_label}
-use Rattle.lf_candidates.proofs.PassingTexts.{cached_class, full_at}
+use Rattle.lf_candidates.proofs.PassingTexts.{cached_class}
 
 -- where other classes are taken from a row, a class that it has stays in it
 

@@ -1,29 +1,19 @@
 -- What is cached of a matcher tells of each class whether its text passes.
-use Rattle.std.proofs.Common.{◌≡◌, ℕ, ◌+◌, ◌<◌, Bool, true, false, not, ◌&&◌, ◌||◌, cond, eqb, [], map, length, get_or, nat_lt, refl, sym, ◌∙◌, ap, subst, arith}
-use Rattle.std.specs.Prelude.{replicate}
+use Rattle.std.proofs.Common.{◌≡◌, ℕ, ◌+◌, ◌<◌, Bool, true, false, not, ◌&&◌, ◌||◌, cond, eqb, map, length, nat_lt, refl, sym, ◌∙◌, ap, subst, arith}
 use Rattle.std.proofs.lemmas.Bool.{false_from_ne_true}
 use Rattle.std.proofs.lemmas.Bool.Decides.{Decides-eqb, nat_tests}
-use Rattle.std.proofs.lemmas.List.{get_or-map, get_or-replicate, length-map}
 use Rattle.lf_laws.proofs.Booleans.{clash}
 use Rattle.lf_ast.specs.Labels.{Bytes}
 use Rattle.lf_ast.specs.declared.expr.MatchOp.{MatchOp}
 use Rattle.lf_semantics.specs.ClassRows.{HasShape, Sets, emptied, holds, is_live, normalized, remade, top}
-use Rattle.lf_semantics.specs.Listing.{Listing, class_counts, class_of, class_texts, named_at, other_class}
+use Rattle.lf_semantics.specs.Listing.{Listing, class_of, class_texts, named_at, other_class}
 use Rattle.lf_semantics.specs.Passing.{passes, passes_other}
 use Rattle.lf_semantics.specs.RowTable.{passes_class, text_of}
 use Rattle.lf_semantics.proofs.Places.{at_place}
-use Rattle.lf_semantics.proofs.RowLaws.{holds-remade, live_when, shape_narrowed, shape_remade, shape_top}
+use Rattle.lf_semantics.proofs.RowLaws.{full_at, holds-remade, live_when, shape_narrowed, shape_remade, shape_top}
 use Rattle.lf_semantics.proofs.RowSets.{emptied_holds}
 use Rattle.lf_classes.specs.views.PatternCache.{passing_row}
 use Rattle.lf_candidates.proofs.FirstClass.{row_length, set_length}
-
--- every class is in the full row
-pub full_at : (u : Listing) (l c : ℕ) → l < length u.named → c < length (named_at u l) + 2 → holds (top u) l c ≡ true
-full_at u l c h k =
-    let counts = class_counts u in
-    let count = get_or-map (λ named. length named + 2) u.named l [] 0 h in
-    ap (λ set. get_or set c false) (get_or-map (λ count. replicate count true) counts l 0 [] (omega (arith, h, length-map u.named (λ named. length named + 2))))
-    ∙ get_or-replicate (get_or counts l 0) c true false (omega (arith, k, count))
 
 module _ (u : Listing) (label : ℕ) (op : MatchOp) (value : Bytes) (within : label < length u.named) where
   abbrev pass : ℕ → ℕ → Bool

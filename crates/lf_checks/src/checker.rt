@@ -52,11 +52,11 @@ impl<'a> Model for Checker<'a> {
     ghost use Rattle.lf_ast.specs.Rules.{rule_trees};
     ghost use Rattle.lf_ast.specs.contracts.rule.Rule as rule;
     ghost use Rattle.lf_semantics.specs.Listing.{IsListing};
-    ghost use Rattle.lf_checks.specs.views.Checked.{Checked};
+    ghost use Rattle.lf_checks.specs.views.Checked.{CheckerView};
     ghost use Rattle.lf_checks.specs.views.Duplicates.{AreFirsts};
     ghost use Rattle.lf_checks.specs.views.Recorded.{AreOf};
 
-    ghost Value = { Checked };
+    ghost Value = { CheckerView };
 
     ghost coded = { Prim.hlevel (codes, rule.the_row.coded) };
 

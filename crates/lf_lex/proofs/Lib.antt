@@ -1,6 +1,5 @@
 pub mod Heads
 pub mod Options
-pub mod Closing
 pub mod DurationLaws
 pub mod Quotes
 pub mod ValueLaws

@@ -1,5 +1,5 @@
 -- The reading of strings is the grammar of strings.
-use Rattle.std.proofs.Common.{◌≡◌, ◌≢◌, ℕ, zero, suc, ◌+◌, ◌<◌, List, [], ◌∷◌, ◌++◌, Option, Some, None, length, refl, ap, arith, append_assoc, sym, ◌∙◌, subst, inl, inr, eq-eqb}
+use Rattle.std.proofs.Common.{◌≡◌, ◌≢◌, ℕ, zero, suc, ◌+◌, ◌<◌, false, List, [], ◌∷◌, ◌++◌, Option, Some, None, length, refl, ap, arith, append_assoc, sym, ◌∙◌, subst, inl, inr, eq-eqb}
 use Rattle.std.proofs.lemmas.Option.{same_Some}
 use Rattle.std.specs.Prelude.{option_map}
 use Rattle.std.proofs.lemmas.Bool.{ne_eqb}
@@ -8,7 +8,7 @@ use Rattle.std.proofs.lemmas.List.{length-append}
 use Rattle.std.proofs.lemmas.List.Concat.{flat_map-cons}
 use Rattle.std.specs.List.{flat_map, AllByRecursion}
 use Rattle.lf_lex.specs.Strings.{StringRaw, One, Pair, raw, IsStringRaw}
-use Rattle.lf_lex.specs.reading.Strings.{closing}
+use Rattle.lf_base.specs.reading.Closing.{closing}
 use Rattle.lf_lex.proofs.Options.{none_some}
 
 -- Behind an opening quote stands `inner`, the quote that closes, and perhaps more.
@@ -25,32 +25,32 @@ abbrev pub ahead : ℕ → Option ℕ → Option ℕ
 ahead n o = option_map (λ k. n + k) o
 
 module _ (quote : ℕ) (not_slash : quote ≢ 92) where
-  pub closing_one : (r : StringRaw) (src : List ℕ) → IsStringRaw quote r → closing quote 0 (raw r ++ src) ≡ ahead (length (raw r)) (closing quote 0 src)
+  pub closing_one : (r : StringRaw) (src : List ℕ) → IsStringRaw quote r → closing (Some 10) quote false (raw r ++ src) ≡ ahead (length (raw r)) (closing (Some 10) quote false src)
   unfolding closing
-  closing_one (One b) src h = rw (ne_eqb b quote h.0, ne_eqb b 10 h.1, ne_eqb b 92 h.2) (one (closing quote 0 src))
+  closing_one (One b) src h = rw (ne_eqb b quote h.0, ne_eqb b 10 h.1, ne_eqb b 92 h.2) (one (closing (Some 10) quote false src))
     where
       one : (o : Option ℕ) → option_map suc o ≡ option_map (λ k. 1 + k) o
       one None = refl
       one (Some n) = ap (λ (k : ℕ). Some k) (omega arith)
-  closing_one (Pair b) src h = rw (ne_eqb 92 quote (λ e. not_slash (sym e)), ne_eqb b 10 h) (two (closing quote 0 src))
+  closing_one (Pair b) src h = rw (ne_eqb 92 quote (λ e. not_slash (sym e)), ne_eqb b 10 h) (two (closing (Some 10) quote false src))
     where
       two : (o : Option ℕ) → option_map suc (option_map suc o) ≡ option_map (λ k. 2 + k) o
       two None = refl
       two (Some n) = ap (λ (k : ℕ). Some k) (omega arith)
 
-  closing_all : (rs : List StringRaw) (rest : List ℕ) → AllByRecursion (IsStringRaw quote) rs → closing quote 0 (flat_map raw rs ++ quote ∷ rest) ≡ Some (length (flat_map raw rs))
+  closing_all : (rs : List StringRaw) (rest : List ℕ) → AllByRecursion (IsStringRaw quote) rs → closing (Some 10) quote false (flat_map raw rs ++ quote ∷ rest) ≡ Some (length (flat_map raw rs))
   unfolding closing
   closing_all [] rest each = rw (eq-eqb quote quote refl) refl
   closing_all (r ∷ rs) rest each =
       let regrouped : flat_map raw (r ∷ rs) ++ quote ∷ rest ≡ raw r ++ (flat_map raw rs ++ quote ∷ rest) = ap (λ (x : List ℕ). x ++ quote ∷ rest) (flat_map-cons raw r rs) ∙ append_assoc (raw r) (flat_map raw rs) (quote ∷ rest) in
-      ap (closing quote 0) regrouped ∙ closing_one r (flat_map raw rs ++ quote ∷ rest) each.0 ∙ ap (ahead (length (raw r))) (closing_all rs rest each.1)
+      ap (closing (Some 10) quote false) regrouped ∙ closing_one r (flat_map raw rs ++ quote ∷ rest) each.0 ∙ ap (ahead (length (raw r))) (closing_all rs rest each.1)
       ∙ ap (λ (n : ℕ). Some n) (sym (ap length (flat_map-cons raw r rs) ∙ length-append (raw r) (flat_map raw rs)))
 
-  pub closes_found : (src inner : List ℕ) → Closes quote src inner → closing quote 0 src ≡ Some (length inner)
+  pub closes_found : (src inner : List ℕ) → Closes quote src inner → closing (Some 10) quote false src ≡ Some (length inner)
   closes_found src inner c =
-      ap (closing quote 0) (c.source ∙ ap (λ (x : List ℕ). x ++ quote ∷ c.rest) c.inner_is) ∙ closing_all c.raws c.rest c.each ∙ ap (λ (x : List ℕ). Some (length x)) (sym c.inner_is)
+      ap (closing (Some 10) quote false) (c.source ∙ ap (λ (x : List ℕ). x ++ quote ∷ c.rest) c.inner_is) ∙ closing_all c.raws c.rest c.each ∙ ap (λ (x : List ℕ). Some (length x)) (sym c.inner_is)
 
-closing_nil : (quote : ℕ) → closing quote 0 [] ≡ None
+closing_nil : (quote : ℕ) → closing (Some 10) quote false [] ≡ None
 unfolding closing
 closing_nil quote = refl
 
@@ -74,14 +74,14 @@ module _ (quote : ℕ) (not_slash : quote ≢ 92) where
     len = sym e ∙ ap (λ (k : ℕ). length (raw r) + k) c.len ∙ sym (length-append (raw r) c.inner);
   }
 
-  next_raw : (r : StringRaw) (src : List ℕ) (n : ℕ) → IsStringRaw quote r → ((m : ℕ) → closing quote 0 src ≡ Some m → Closed quote src m) → closing quote 0 (raw r ++ src) ≡ Some n → Closed quote (raw r ++ src) n
-  next_raw r src n h again e = by (closing quote 0 src) refl (sym (closing_one quote not_slash r src h) ∙ e)
+  next_raw : (r : StringRaw) (src : List ℕ) (n : ℕ) → IsStringRaw quote r → ((m : ℕ) → closing (Some 10) quote false src ≡ Some m → Closed quote src m) → closing (Some 10) quote false (raw r ++ src) ≡ Some n → Closed quote (raw r ++ src) n
+  next_raw r src n h again e = by (closing (Some 10) quote false src) refl (sym (closing_one quote not_slash r src h) ∙ e)
     where
-      by : (o : Option ℕ) → closing quote 0 src ≡ o → option_map (λ k. length (raw r) + k) o ≡ Some n → Closed quote (raw r ++ src) n
+      by : (o : Option ℕ) → closing (Some 10) quote false src ≡ o → option_map (λ k. length (raw r) + k) o ≡ Some n → Closed quote (raw r ++ src) n
       by None p q = none_some n None refl q
       by (Some m) p q = more_raw r src n m h (same_Some (length (raw r) + m) n q) (again m p)
 
-  found_at : (src : List ℕ) (b n : ℕ) → b ≡ quote → closing quote 0 (b ∷ src) ≡ Some n → Closed quote (b ∷ src) n
+  found_at : (src : List ℕ) (b n : ℕ) → b ≡ quote → closing (Some 10) quote false (b ∷ src) ≡ Some n → Closed quote (b ∷ src) n
   unfolding closing
   found_at src b n e h = record {
     inner = [];
@@ -89,21 +89,21 @@ module _ (quote : ℕ) (not_slash : quote ≢ 92) where
     len = sym (same_Some 0 n (sym (rw (eq-eqb b quote e) refl) ∙ h));
   }
 
-  no_break : (src : List ℕ) (b n : ℕ) {X : Type 0} → b ≢ quote → b ≡ 10 → closing quote 0 (b ∷ src) ≡ Some n → X
+  no_break : (src : List ℕ) (b n : ℕ) {X : Type 0} → b ≢ quote → b ≡ 10 → closing (Some 10) quote false (b ∷ src) ≡ Some n → X
   unfolding closing
-  no_break src b n d e h = none_some n (closing quote 0 (b ∷ src)) (rw (ne_eqb b quote d, eq-eqb b 10 e) refl) h
+  no_break src b n d e h = none_some n (closing (Some 10) quote false (b ∷ src)) (rw (ne_eqb b quote d, eq-eqb b 10 e) refl) h
 
-  no_end : (b n : ℕ) {X : Type 0} → b ≢ quote → b ≢ 10 → b ≡ 92 → closing quote 0 (b ∷ []) ≡ Some n → X
+  no_end : (b n : ℕ) {X : Type 0} → b ≢ quote → b ≢ 10 → b ≡ 92 → closing (Some 10) quote false (b ∷ []) ≡ Some n → X
   unfolding closing
-  no_end b n d t e h = none_some n (closing quote 0 (b ∷ [])) (rw (ne_eqb b quote d, ne_eqb b 10 t) refl) h
+  no_end b n d t e h = none_some n (closing (Some 10) quote false (b ∷ [])) (rw (ne_eqb b quote d, ne_eqb b 10 t) refl) h
 
-  no_pair : (src : List ℕ) (b c n : ℕ) {X : Type 0} → b ≢ quote → b ≢ 10 → b ≡ 92 → c ≡ 10 → closing quote 0 (b ∷ c ∷ src) ≡ Some n → X
+  no_pair : (src : List ℕ) (b c n : ℕ) {X : Type 0} → b ≢ quote → b ≢ 10 → b ≡ 92 → c ≡ 10 → closing (Some 10) quote false (b ∷ c ∷ src) ≡ Some n → X
   unfolding closing
-  no_pair src b c n d t e f h = none_some n (closing quote 0 (b ∷ c ∷ src)) (rw (ne_eqb b quote d, ne_eqb b 10 t, eq-eqb b 92 e, eq-eqb c 10 f) refl) h
+  no_pair src b c n d t e f h = none_some n (closing (Some 10) quote false (b ∷ c ∷ src)) (rw (ne_eqb b quote d, ne_eqb b 10 t, eq-eqb b 92 e, eq-eqb c 10 f) refl) h
 
-  found_closes : (fuel : ℕ) (src : List ℕ) (n : ℕ) → length src < fuel → closing quote 0 src ≡ Some n → Closed quote src n
+  found_closes : (fuel : ℕ) (src : List ℕ) (n : ℕ) → length src < fuel → closing (Some 10) quote false src ≡ Some n → Closed quote src n
   found_closes zero src n lt h = absurd (omega arith)
-  found_closes (suc fuel) [] n lt h = none_some n (closing quote 0 []) (closing_nil quote) h
+  found_closes (suc fuel) [] n lt h = none_some n (closing (Some 10) quote false []) (closing_nil quote) h
   found_closes (suc fuel) (b ∷ []) n lt h =
       elim (eqb_tells b quote) [
         | inl q ↦ found_at [] b n q.1 h
@@ -123,12 +123,12 @@ module _ (quote : ℕ) (not_slash : quote ≢ 92) where
           | inr t ↦ elim (eqb_tells b 92) [
             | inl s ↦ elim (eqb_tells c 10) [
               | inl f ↦ no_pair src b c n q.1 t.1 s.1 f.1 h
-              | inr f ↦ subst (λ (x : ℕ). Closed quote (x ∷ c ∷ src) n) (sym s.1) (next_raw (Pair c) src n f.1 (λ m e. found_closes fuel src m (omega arith) e) (ap (λ (x : ℕ). closing quote 0 (x ∷ c ∷ src)) (sym s.1) ∙ h))
+              | inr f ↦ subst (λ (x : ℕ). Closed quote (x ∷ c ∷ src) n) (sym s.1) (next_raw (Pair c) src n f.1 (λ m e. found_closes fuel src m (omega arith) e) (ap (λ (x : ℕ). closing (Some 10) quote false (x ∷ c ∷ src)) (sym s.1) ∙ h))
             ]
             | inr s ↦ next_raw (One b) (c ∷ src) n (q.1, t.1, s.1) (λ m e. found_closes fuel (c ∷ src) m (omega arith) e) h
           ]
         ]
       ]
 
-  pub closes_told : (src : List ℕ) (n : ℕ) → closing quote 0 src ≡ Some n → Closed quote src n
+  pub closes_told : (src : List ℕ) (n : ℕ) → closing (Some 10) quote false src ≡ Some n → Closed quote src n
   closes_told src n h = found_closes (suc (length src)) src n (omega arith) h

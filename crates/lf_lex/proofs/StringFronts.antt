@@ -1,5 +1,5 @@
 -- Strings in quotes at the front of a text.
-use Rattle.std.proofs.Common.{◌≡◌, ◌≢◌, ℕ, suc, ◌+◌, ◌-◌, ◌<◌, Bool, List, [], ◌∷◌, ◌++◌, map, length, get_or, take, drop, Option, Some, None, refl, ap, arith, append_assoc, append-nil, sym, ◌∙◌, subst, ◌⊎◌, inl, inr, length-append, length-take-le, take-append-drop}
+use Rattle.std.proofs.Common.{◌≡◌, ◌≢◌, ℕ, suc, ◌+◌, ◌-◌, ◌<◌, Bool, true, false, List, [], ◌∷◌, ◌++◌, map, length, get_or, take, drop, Option, Some, None, refl, ap, arith, append_assoc, append-nil, sym, ◌∙◌, subst, ◌⊎◌, inl, inr, length-append, length-take-le, take-append-drop}
 use Rattle.std.proofs.lemmas.List.{take_at}
 use Rattle.std.specs.Prelude.{option_map}
 use Rattle.std.proofs.lemmas.Bool.{ne_eqb, eq-eqb}
@@ -8,11 +8,12 @@ use Rattle.std.specs.Str.{IsUtf8}
 use Rattle.std.specs.Str.Lossy.{utf8_valid_len}
 use Rattle.std.proofs.lemmas.List.Concat.{flat_map-append}
 use Rattle.lf_base.specs.declared.kind.Kind.TheVariants.{OpenString, BadEscape}
+use Rattle.lf_base.specs.reading.Closing.{closing}
 use Rattle.lf_lex.specs.declared.token.TokenKind.TheVariants as kinds
 use Rattle.lf_lex.specs.Strings.{IsQuote, StringRaw, raw, IsStringRaw, IsStringInner, IsEscape, StringPiece, Bare, Escape, piece_text, meant, IsStringPiece, HasValue}
 use Rattle.lf_lex.specs.Lexemes.{IsLongest, EndsLine}
 use Rattle.lf_lex.specs.Breaches.{StopsString, line_ends, backslash_first, BeginsNoEscape, ReadsUpTo, IsWrongAt, no_escape, no_utf8}
-use Rattle.lf_lex.specs.reading.Strings.{closing, escape, PlacedByte, placed, piece, gives, bytes_of, places_of}
+use Rattle.lf_lex.specs.reading.Strings.{escape, PlacedByte, placed, piece, gives, bytes_of, places_of}
 use Rattle.lf_lex.specs.reading.Steps.{Front, token, breach, value_front, quoted_front, next_token}
 use Rattle.lf_lex.proofs.Quotes.{ahead, closing_one, closes_found}
 use Rattle.lf_lex.proofs.ValueLaws.{IsRead, escape_kept, piece_bare, piece_escape}
@@ -83,7 +84,7 @@ module _ (quote : ℕ) (q : IsQuote quote) where
       h.value_is ∙ sym (append-nil (flat_map meant h.pieces)) ∙ ap (λ (x : List ℕ). flat_map meant h.pieces ++ x) (sym (nil_value quote)) ∙ sym v ∙ ap (value_of quote) (sym split)
 
   module _ (from : List ℕ) (inside : Bool) (at : ℕ) (inner rest : List ℕ) (is_inner : IsStringInner quote inner) where
-    closes_there : closing quote 0 (inner ++ quote ∷ rest) ≡ Some (length inner)
+    closes_there : closing (Some 10) quote false (inner ++ quote ∷ rest) ≡ Some (length inner)
     closes_there = closes_found quote (quote_no_slash quote q) (inner ++ quote ∷ rest) inner (record { raws = is_inner.raws; each = is_inner.each; rest = rest; inner_is = is_inner.source; source = refl })
 
     front_value : next_token from inside at (quote ∷ (inner ++ quote ∷ rest)) ≡ value_front from at quote inner
@@ -212,20 +213,20 @@ module _ (quote : ℕ) (q : IsQuote quote) where
 
     -- ---- a string that stays open
 
-    stops_there : (rest : List ℕ) → StopsString rest → closing quote 0 rest ≡ None
+    stops_there : (rest : List ℕ) → StopsString rest → closing (Some 10) quote false rest ≡ None
     unfolding closing
     stops_there [] (line_ends h) = refl
     stops_there (b ∷ rest) (line_ends h) = rw (ne_eqb b quote (λ e. quote_no_feed quote q (sym e ∙ h)), eq-eqb b 10 h) refl
-    stops_there rest (backslash_first more e h) = ap (closing quote 0) e ∙ rw (ne_eqb 92 quote (λ f. quote_no_slash quote q (sym f))) (behind more h)
+    stops_there rest (backslash_first more e h) = ap (closing (Some 10) quote false) e ∙ rw (ne_eqb 92 quote (λ f. quote_no_slash quote q (sym f))) (behind more h)
       where
-        behind : (more : List ℕ) → EndsLine more → option_map suc (closing quote 1 more) ≡ None
+        behind : (more : List ℕ) → EndsLine more → option_map suc (closing (Some 10) quote true more) ≡ None
         behind [] h = refl
         behind (b ∷ more) h = rw (eq-eqb b 10 h) refl
 
-    raws_open : (rs : List StringRaw) (rest : List ℕ) → AllByRecursion (IsStringRaw quote) rs → closing quote 0 rest ≡ None → closing quote 0 (flat_map raw rs ++ rest) ≡ None
+    raws_open : (rs : List StringRaw) (rest : List ℕ) → AllByRecursion (IsStringRaw quote) rs → closing (Some 10) quote false rest ≡ None → closing (Some 10) quote false (flat_map raw rs ++ rest) ≡ None
     raws_open [] rest each h = h
     raws_open (r ∷ rs) rest each h =
-        ap (closing quote 0) (append_assoc (raw r) (flat_map raw rs) rest) ∙ closing_one quote (quote_no_slash quote q) r (flat_map raw rs ++ rest) each.0 ∙ ap (ahead (length (raw r))) (raws_open rs rest each.1 h)
+        ap (closing (Some 10) quote false) (append_assoc (raw r) (flat_map raw rs) rest) ∙ closing_one quote (quote_no_slash quote q) r (flat_map raw rs ++ rest) each.0 ∙ ap (ahead (length (raw r))) (raws_open rs rest each.1 h)
 
     pub open_reads : (raws : List StringRaw) (rest : List ℕ) → AllByRecursion (IsStringRaw quote) raws → StopsString rest → next_token from inside at (quote ∷ (flat_map raw raws ++ rest)) ≡ breach {X = Front} from OpenString at (at + 1)
     unfolding quoted_front

@@ -13,7 +13,7 @@ use Rattle.lf_lex.specs.declared.token.TokenKind.TheVariants as kinds
 use Rattle.lf_lex.specs.Strings.{IsQuote, StringRaw, One, Pair, raw, IsStringRaw, IsStringInner, StringPiece, piece_text, meant, in_quotes}
 use Rattle.lf_lex.specs.Lexemes.{IsLongest, Written}
 use Rattle.lf_lex.specs.Breaches.{StopsString, line_ends, backslash_first, in_quotes as open_quotes, BeginsNoEscape, ReadsUpTo, IsWrongAt, no_escape, no_utf8}
-use Rattle.lf_lex.specs.reading.Strings.{closing}
+use Rattle.lf_base.specs.reading.Closing.{closing}
 use Rattle.lf_lex.proofs.Longest.{greatest_longest}
 use Rattle.lf_lex.proofs.Quotes.{closes_told}
 use Rattle.lf_lex.proofs.PieceLaws.{IsReadWrong, ReadTo, read_to}
@@ -48,7 +48,7 @@ none_behind None h = refl
 none_behind (Some n) h = none_some (suc n) (option_map suc (Some n)) h refl
 
 module _ (quote : ℕ) (q : IsQuote quote) where
-  open_is : (fuel : ℕ) (src : List ℕ) → length src < fuel → closing quote 0 src ≡ None → Open quote src
+  open_is : (fuel : ℕ) (src : List ℕ) → length src < fuel → closing (Some 10) quote false src ≡ None → Open quote src
   unfolding closing
   open_is zero src lt h = absurd (omega arith)
   open_is (suc fuel) [] lt h = open_here quote [] (line_ends tt)
@@ -59,24 +59,24 @@ module _ (quote : ℕ) (q : IsQuote quote) where
       ]
     where
       by : ((eqb b quote ≡ true) × (b ≡ quote)) ⊎ ((eqb b quote ≡ false) × (b ≢ quote)) → ((eqb b 10 ≡ true) × (b ≡ 10)) ⊎ ((eqb b 10 ≡ false) × (b ≢ 10)) → (eqb b 92 ≡ false) × (b ≢ 92) → Open quote (b ∷ [])
-      by (inl y) t s = none_some 0 (closing quote 0 (b ∷ [])) h (rw y.0 refl)
+      by (inl y) t s = none_some 0 (closing (Some 10) quote false (b ∷ [])) h (rw y.0 refl)
       by (inr n) (inl y) s = open_here quote (b ∷ []) (line_ends y.1)
       by (inr n) (inr m) s = more_open quote (One b) (b ∷ []) [] (n.1, m.1, s.1) refl (open_here quote [] (line_ends tt))
   open_is (suc fuel) (b ∷ c ∷ src) lt h = by (λ rest l e. open_is fuel rest l e) (eqb_tells b quote) (eqb_tells b 10) (eqb_tells b 92) (eqb_tells c 10)
     where
       Again : Type 0
-      Again = (rest : List ℕ) → length rest < fuel → closing quote 0 rest ≡ None → Open quote rest
+      Again = (rest : List ℕ) → length rest < fuel → closing (Some 10) quote false rest ≡ None → Open quote rest
 
       by : Again → ((eqb b quote ≡ true) × (b ≡ quote)) ⊎ ((eqb b quote ≡ false) × (b ≢ quote)) → ((eqb b 10 ≡ true) × (b ≡ 10)) ⊎ ((eqb b 10 ≡ false) × (b ≢ 10)) → ((eqb b 92 ≡ true) × (b ≡ 92)) ⊎ ((eqb b 92 ≡ false) × (b ≢ 92)) → ((eqb c 10 ≡ true) × (c ≡ 10)) ⊎ ((eqb c 10 ≡ false) × (c ≢ 10)) → Open quote (b ∷ c ∷ src)
-      by again (inl y) t s f = none_some 0 (closing quote 0 (b ∷ c ∷ src)) h (rw y.0 refl)
+      by again (inl y) t s f = none_some 0 (closing (Some 10) quote false (b ∷ c ∷ src)) h (rw y.0 refl)
       by again (inr n) (inl y) s f = open_here quote (b ∷ c ∷ src) (line_ends y.1)
       by again (inr n) (inr m) (inl y) (inl z) = open_here quote (b ∷ c ∷ src) (backslash_first (c ∷ src) (ap (λ (x : ℕ). x ∷ c ∷ src) y.1) z.1)
       by again (inr n) (inr m) (inl y) (inr z) =
-          let e : closing quote 0 (b ∷ c ∷ src) ≡ option_map suc (option_map suc (closing quote 0 src)) = rw (n.0, m.0, y.0, z.0) refl in
-          more_open quote (Pair c) (b ∷ c ∷ src) src z.1 (ap (λ (x : ℕ). x ∷ c ∷ src) y.1) (again src (omega arith) (none_behind (closing quote 0 src) (none_behind (option_map suc (closing quote 0 src)) (sym e ∙ h))))
+          let e : closing (Some 10) quote false (b ∷ c ∷ src) ≡ option_map suc (option_map suc (closing (Some 10) quote false src)) = rw (n.0, m.0, y.0, z.0) refl in
+          more_open quote (Pair c) (b ∷ c ∷ src) src z.1 (ap (λ (x : ℕ). x ∷ c ∷ src) y.1) (again src (omega arith) (none_behind (closing (Some 10) quote false src) (none_behind (option_map suc (closing (Some 10) quote false src)) (sym e ∙ h))))
       by again (inr n) (inr m) (inr s) f =
-          let e : closing quote 0 (b ∷ c ∷ src) ≡ option_map suc (closing quote 0 (c ∷ src)) = rw (n.0, m.0, s.0) refl in
-          more_open quote (One b) (b ∷ c ∷ src) (c ∷ src) (n.1, m.1, s.1) refl (again (c ∷ src) (omega arith) (none_behind (closing quote 0 (c ∷ src)) (sym e ∙ h)))
+          let e : closing (Some 10) quote false (b ∷ c ∷ src) ≡ option_map suc (closing (Some 10) quote false (c ∷ src)) = rw (n.0, m.0, s.0) refl in
+          more_open quote (One b) (b ∷ c ∷ src) (c ∷ src) (n.1, m.1, s.1) refl (again (c ∷ src) (omega arith) (none_behind (closing (Some 10) quote false (c ∷ src)) (sym e ∙ h)))
 
 -- ---- the piece that gave a byte
 
@@ -201,9 +201,9 @@ module _ (quote : ℕ) (q : IsQuote quote) (inside : Bool) (src inner rest : Lis
 
 module _ (quote : ℕ) (q : IsQuote quote) (inside : Bool) (src : List ℕ) where
   pub quoted_stands : Standing inside (quote ∷ src)
-  quoted_stands = by (closing quote 0 src) refl
+  quoted_stands = by (closing (Some 10) quote false src) refl
     where
-      by : (o : Option ℕ) → closing quote 0 src ≡ o → Standing inside (quote ∷ src)
+      by : (o : Option ℕ) → closing (Some 10) quote false src ≡ o → Standing inside (quote ∷ src)
       by None e =
           let o = open_is quote q (suc (length src)) src (omega arith) e in
           fails OpenString 0 1 (refl, refl, open_quotes quote o.raws o.rest q (ap (λ (x : List ℕ). quote ∷ x) o.source) o.each o.stops)

@@ -1,5 +1,5 @@
 //! From a text to its tokens.
-ghost use Rattle.std.specs.Prelude.{◌≡◌, ◌+◌, ◌++◌, ◌≤◌, ℕ, [], length, slice_index, false, Ok, Err, IfOk, OnOk};
+ghost use Rattle.std.specs.Prelude.{◌≡◌, ◌+◌, ◌++◌, ◌≤◌, ℕ, length, slice_index, false, Ok, Err, IfOk, OnOk};
 ghost use Rattle.std.specs.List.Sorted.{IsNonDecreasing, IsNonDecreasingBy};
 ghost use Rattle.lf_base.specs.Answers.{Found, Only, Refused, Breach, RefusedIn};
 ghost use Rattle.lf_lex.specs.Tokens.{Tokens, Breaks, LieIn};
@@ -69,14 +69,6 @@ pub fn lex(alloc: Global, text: &Text, from: &Seq<u32>) -> Result<Seq<Token>, Re
     read(alloc, text.as_str(), from.as_slice())
 }
 
-/// No tokens, with room for those of a text of this length, if they are few.
-fn no_tokens(alloc: Global, len: usize) -> Result<Seq<Token>, Memory>
-    ensures { IfOk result (λ tokens. tokens ≡ []) }
-{
-    let room = Vec::with_capacity(alloc, len.min(FIRST_ROOM))?;
-    Ok(Seq::from_vec(room))
-}
-
 /// The same over a plain text and list, told in the words of the way of reading.
 fn read(alloc: Global, text: &str, from: &[u32]) -> Result<Seq<Token>, Refusal>
     requires from { length from.now ≡ length text.now + 1 }
@@ -85,7 +77,7 @@ fn read(alloc: Global, text: &str, from: &[u32]) -> Result<Seq<Token>, Refusal>
     ensures refused { Refused (λ fault. reading.Reads from.now false 0 text.now (Err fault)) result }
     ensures ordered { IfOk result (λ tokens. IsNonDecreasingBy (λ token. token.span.start) tokens) }
 {
-    let mut tokens = no_tokens(alloc, text.len())?;
+    let mut tokens = Seq::with_capacity(alloc, text.len().min(FIRST_ROOM))?;
     let mut inside = false;
     let mut at = 0;
     while at < text.len() {

@@ -12,10 +12,10 @@ use crate::bytes;
 use crate::class::{ByteClass, prefix_len};
 use crate::run::{self, duration_order, is_number, run_len};
 use crate::sign::sign_at;
-use crate::string::{closing, place_of_byte, value_bytes};
+use crate::string::{place_of_byte, value_bytes};
 use crate::token::TokenKind;
 use lf_base::bytes::{after, before};
-use lf_base::{Kind, Memory, Refusal, Span, Text};
+use lf_base::{Kind, Memory, Refusal, Span, Text, closing};
 use std::alloc::Global;
 
 /// The refusal of a part of the text.
@@ -141,7 +141,7 @@ fn quoted(
     let here = here(text, at);
     let quote = here[0];
     let rest = after(here, 1);
-    match closing(quote, rest) {
+    match closing(quote, Some(b'\n'), rest) {
         None => Err(breach(from, Kind::OpenString, at, at + 1)),
         Some(len) => value(alloc, from, at, quote, before(rest, len)),
     }

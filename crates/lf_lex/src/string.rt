@@ -1,4 +1,4 @@
-//! Strings in quotes: where they close, and what their escapes give.
+//! Strings in quotes: what their escapes give.
 ghost use Rattle.std.specs.Prelude.{◌≡◌, ◌+◌, ◌≤◌, ◌<◌, ◌++◌, length, Option, Some, None, IfSome, IfOk, OnOk, encode_utf8, slice_index, ◌&&◌, ◌==◌};
 ghost use Rattle.lf_lex.specs.Strings.{byte_of_letter};
 ghost use Rattle.lf_lex.specs.reading.Strings as strings;
@@ -6,27 +6,9 @@ ghost use Rattle.lf_lex.specs.reading.Escapes.{told_of, given_by};
 
 use crate::bytes::is_octal;
 use lf_base::Memory;
-use lf_base::bytes::{after, is_bare};
+use lf_base::bytes::after;
 use lf_base::names::{hexadecimal_value, is_digit};
 use std::alloc::Global;
-
-/// How many bytes stand before the quote that closes, where one does on the line.
-pub fn closing(quote: u8, rest: &[u8]) -> Option<usize>
-    ensures value { result ≡ strings.closing quote 0 rest.now }
-    ensures within { IfSome result (λ n. n < length rest.now) }
-{
-    let mut skip = false;
-    for (i, byte) in rest.iter().enumerate() {
-        if is_bare(skip, *byte, quote) {
-            return Some(i);
-        }
-        if *byte == b'\n' {
-            return None;
-        }
-        skip = is_bare(skip, *byte, b'\\');
-    }
-    None
-}
 
 /// What an escape stands for.
 #[derive(Clone, Copy, Debug)]

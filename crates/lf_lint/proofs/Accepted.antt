@@ -44,7 +44,7 @@ module _ (files : List File) (contents : List Content) (are : AreContents files 
   set_no_name r c = let of = of_file r c in sets_no_name of.file.bytes of.number of.rules of.is_accepted r of.is_one
 
   pub are_typed : AreTyped (accepted contents)
-  are_typed r c = let of = of_file r c in let judged = accepted_rule of.file.bytes of.number of.rules of.is_accepted r of.is_one in (judged.type, judged.has_type)
+  are_typed r c = let of = of_file r c in let judged = accepted_rule of.file.bytes of.number of.rules of.is_accepted r of.is_one in (judged.judged.type, judged.judged.has_type)
 
   -- no label is called as the one that stands for all others is
   pub no_star_in : Contains (universe_of (accepted contents)).names (codes "*") → ⊥

@@ -1,12 +1,12 @@
 //! Names of files as reports show them.
-ghost use Rattle.std.specs.Prelude.{◌≡◌, ◌<◌, ◌/◌, ◌%◌, false, [], ◌∷◌, ◌++◌, codes, map, string_bytes, IfOk, OnOk};
+ghost use Rattle.std.specs.Prelude.{◌≡◌, ◌<◌, ◌/◌, ◌%◌, false, [], ◌∷◌, ◌++◌, codes, string_bytes, IfOk, OnOk};
 ghost use Rattle.std.specs.Char.{encode_utf8};
 ghost use Rattle.std.specs.Fmt.{digit_glyph};
 ghost use Rattle.std.specs.List.{list_all};
 ghost use Rattle.lf_report.specs.Shown.{shown};
 ghost use Rattle.lf_report.specs.views.PlainNames.{is_plain};
 
-use lf_base::{Memory, Seq, Text};
+use lf_base::{Memory, Text};
 use std::alloc::Global;
 
 /// The name as a report shows it: control characters as `\x` and two hexadecimal digits, so that a name stays on its line.

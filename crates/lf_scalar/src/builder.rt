@@ -1,5 +1,5 @@
 //! A text that is being made, with the source offset of each of its bytes. It is public for the crates of this repository that fold scalars of their own.
-ghost use Rattle.std.specs.Prelude.{◌≡◌, ◌+◌, ◌<◌, ◌^◌, ◌∷◌, ◌++◌, [], length, string_bytes, take, min, IfOk, Ok, OnOk, OnErr};
+ghost use Rattle.std.specs.Prelude.{◌≡◌, ◌+◌, ◌<◌, ◌^◌, ◌∷◌, ◌++◌, [], length, take, min, IfOk, Ok, OnOk, OnErr};
 ghost use Rattle.std.specs.Str.{IsUtf8};
 ghost use Rattle.lf_base.specs.Answers.{AnswersAs};
 ghost use Rattle.lf_scalar.specs.Cells.{cell, cells, bytes_of, offsets_of, end_of, made};
@@ -13,9 +13,6 @@ use crate::scalar::Scalar;
 use lf_base::{Memory, Refusal, Seq, Span, Text};
 use std::alloc::Global;
 use std::marker::Model;
-
-/// How many bytes a text has at most that is copied once it is read, so that it and its copies take no memory of their own.
-const SHORT: usize = 24;
 
 /// Bytes, and for each the source offset of what gave it. Contracts see it as a list of cells.
 #[derive(Debug, Drop)]
@@ -126,7 +123,7 @@ impl ScalarBuilder {
         }
         match String::from_utf8(text) {
             Ok(text) => Ok(Scalar {
-                text: short_or_held(alloc, text)?,
+                text: Text::shortest(alloc, text),
                 from: Seq::from_vec(from),
                 span,
             }),
@@ -147,17 +144,6 @@ impl ScalarBuilder {
     {
         self.text.truncate(len);
         self.from.truncate(len);
-    }
-}
-
-/// A text, which takes no memory of its own where it is short.
-fn short_or_held(alloc: Global, string: String) -> Result<Text, Memory>
-    ensures { IfOk result (λ text. text ≡ string_bytes string) }
-{
-    if string.len() <= SHORT {
-        Text::of(alloc, string.as_str())
-    } else {
-        Ok(Text::from_string(string))
     }
 }
 

@@ -73,6 +73,14 @@ shape_top u = top_counts (class_counts u)
 pub shape_bottom : (u : Listing) → HasShape u (bottom u)
 shape_bottom u = shape_emptied (top u) ∙ shape_top u
 
+-- every class is in the full row
+pub full_at : (u : Listing) (l c : ℕ) → l < length u.named → c < length (named_at u l) + 2 → holds (top u) l c ≡ true
+full_at u l c h k =
+    let counts = class_counts u in
+    let count = get_or-map (λ named. length named + 2) u.named l [] 0 h in
+    ap (λ set. get_or set c false) (get_or-map (λ count. replicate count true) counts l 0 [] (omega (arith, h, length-map u.named (λ named. length named + 2))))
+    ∙ get_or-replicate (get_or counts l 0) c true false (omega (arith, k, count))
+
 pub shape_join : (u : Listing) (row other : Sets) → HasShape u row → HasShape u other → HasShape u (join row other)
 shape_join u row other h k =
     elim (is_live row) as (λ b. HasShape u (cond b (cond (is_live other) (remade (λ l c on. on || holds other l c) row) row) other)) [

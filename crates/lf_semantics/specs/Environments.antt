@@ -81,9 +81,13 @@ EnvironmentLeq [] [] = Unit {0}
 EnvironmentLeq (a ∷ env) (b ∷ other) = (a.0 ≡ b.0) × Leq a.1 b.1 × EnvironmentLeq env other
 EnvironmentLeq _ _ = ⊥
 
--- a post-fixed point of the rules: the row of what each recording rule stores is at most the row of its name
+-- an environment holds a rule: the row of what it stores, if it is a recording rule, is at most the row of its name
+abbrev pub HoldsRule : Listing → Environment → RuleTree → Type 0
+HoldsRule u env r = r.alert ≡ false → (row : Sets) × (row_named env r.name ≡ Some row) × Leq (recorded_row u env r) row
+
+-- a post-fixed point of the rules: it holds each of them
 abbrev pub IsPostFixedPoint : Listing → List RuleTree → Environment → Type 0
-IsPostFixedPoint u rules env = (r : RuleTree) → Contains rules r → r.alert ≡ false → (row : Sets) × (row_named env r.name ≡ Some row) × Leq (recorded_row u env r) row
+IsPostFixedPoint u rules env = (r : RuleTree) → Contains rules r → HoldsRule u env r
 
 -- the least post-fixed point
 pub record IsLeast (u : Listing) (rules : List RuleTree) (env : Environment) : Type 0 where

@@ -3,7 +3,6 @@ use Rattle.std.proofs.Common.{◌≡◌, ◌≤◌, ◌<◌, ◌⊎◌, inl, inr
 use Rattle.std.proofs.lemmas.Bool.{eq-eqb, eqb-true}
 use Rattle.std.specs.List.{Contains, filter, range_with_len}
 use Rattle.std.proofs.lemmas.List.FromFn.{length-range_with_len}
-use Rattle.std.proofs.lemmas.Option.{slice_get_within}
 use Rattle.std.proofs.Math.Bool.{or-false}
 use Rattle.lf_laws.proofs.Booleans.{clash}
 use Rattle.lf_laws.proofs.Members.{first_or_behind, none_in}
@@ -19,7 +18,7 @@ use Rattle.lf_semantics.specs.RowTable.{Environment, may_be_present, row_of}
 use Rattle.lf_semantics.specs.Worlds.{SetsNoName}
 use Rattle.lf_semantics.proofs.Members.{in_filter}
 use Rattle.lf_deps.specs.Reading.{IsCyclic, Reads, Records, selectors}
-use Rattle.lf_deps.proofs.Ascending.{in_range}
+use Rattle.lf_deps.proofs.Ascending.{number_in}
 use Rattle.lf_trials.specs.Built.{build_by_rule}
 use Rattle.lf_trials.specs.Forks.{TellsForks}
 use Rattle.lf_trials.specs.Reached.{is_marked}
@@ -81,12 +80,9 @@ module _ (u : Listing) (rules : List RuleTree) (p : IsListing u) (small : IsSmal
   abbrev pub MadeBy : ℕ → List ℕ → Tree → Type 0
   MadeBy room marked e = Made u rules p small env holds_fork tells covers unnamed of union closed last (build_by_rule u env rules holds_fork room marked) e
 
-  number_in : (k : ℕ) (r : RuleTree) → slice_get rules k ≡ Some r → Contains (range_with_len 0 (length rules)) k
-  number_in k r at = in_range (length rules) k (slice_get_within rules k r at)
-
   room_left : (room : ℕ) (marked : List ℕ) (k : ℕ) (r : RuleTree) → slice_get rules k ≡ Some r → is_marked marked k ≡ false → HasRoom (suc room) marked → HasRoom room (k ∷ marked)
   room_left room marked k r at free h =
-      let less = one_fewer (unmarked marked) (unmarked (k ∷ marked)) (range_with_len 0 (length rules)) k (λ j e. drop_one (eqb j k) (is_marked marked j) e) (number_in k r at) (ap not free) (ap (λ b. not (b || is_marked marked k)) (eq-eqb k k refl)) in
+      let less = one_fewer (unmarked marked) (unmarked (k ∷ marked)) (range_with_len 0 (length rules)) k (λ j e. drop_one (eqb j k) (is_marked marked j) e) (number_in rules k r at) (ap not free) (ap (λ b. not (b || is_marked marked k)) (eq-eqb k k refl)) in
       omega (arith, less, h)
     where
       drop_one : (a b : Bool) → not (a || b) ≡ true → not b ≡ true
@@ -95,7 +91,7 @@ module _ (u : Listing) (rules : List RuleTree) (p : IsListing u) (small : IsSmal
 
   no_room : (marked : List ℕ) (k : ℕ) (r : RuleTree) → slice_get rules k ≡ Some r → is_marked marked k ≡ false → HasRoom 0 marked → ⊥
   no_room marked k r at free h =
-      let c = in_filter (unmarked marked) (range_with_len 0 (length rules)) k (number_in k r at) (ap not free) in
+      let c = in_filter (unmarked marked) (range_with_len 0 (length rules)) k (number_in rules k r at) (ap not free) in
       let w = c.1 in
       omega (arith, w, h)
 

@@ -1,43 +1,11 @@
--- Going over a string and a comment byte by byte, to what closes it.
-use Rattle.std.proofs.Common.{◌≡◌, ℕ, suc, ◌+◌, ◌<◌, ◌≤◌, Bool, true, false, not, ◌&&◌, cond, eqb, List, [], ◌∷◌, Option, Some, None, length, get_or, drop, refl, ap, arith, add-one, drop-cons, length-drop}
+-- Going over a comment byte by byte, to what closes it.
+use Rattle.std.proofs.Common.{◌≡◌, ℕ, suc, ◌+◌, ◌<◌, ◌≤◌, true, false, cond, List, [], ◌∷◌, Option, Some, None, length, get_or, drop, refl, ap, arith, add-one, drop-cons, length-drop}
 use Rattle.std.specs.Prelude.{option_map}
 use Rattle.std.proofs.lemmas.List.{drop_all}
 use Rattle.lf_templates.specs.Bytes.{starts_with}
 use Rattle.lf_laws.proofs.Options.{place_from_start, place_more}
 use Rattle.lf_templates.specs.Tokens.{ends_comment}
-use Rattle.lf_templates.specs.reading.Templates.{closing, comment_len}
-
--- ---- strings
-
-closing-step : (quote b : ℕ) (src : List ℕ) (skip : Bool) → closing quote skip (b ∷ src) ≡ cond (not skip && eqb b quote) (Some 0) (option_map suc (closing quote (not skip && eqb b 92) src))
-unfolding closing
-closing-step quote b src true = refl
-closing-step quote b src false = refl
-
--- what closes, where the first bytes are passed
-abbrev pub passed : ℕ → List ℕ → ℕ → Bool → Option ℕ
-passed quote rest i skip = option_map (λ n. i + n) (closing quote skip (drop i rest))
-
-module _ (quote : ℕ) (rest : List ℕ) (i : ℕ) (lt : i < length rest) where
-  here : (skip : Bool) → closing quote skip (drop i rest) ≡ cond (not skip && eqb (get_or rest i 0) quote) (Some 0) (option_map suc (closing quote (not skip && eqb (get_or rest i 0) 92) (drop (i + 1) rest)))
-  here skip = rw (add-one, drop-cons rest i 0) (closing-step quote (get_or rest i 0) (drop (suc i) rest) skip)
-
-  pub passed-closes : (skip : Bool) → (not skip && eqb (get_or rest i 0) quote) ≡ true → passed quote rest i skip ≡ Some i
-  passed-closes skip e = rw (here skip, e) (ap (λ (k : ℕ). Some k) (omega arith))
-
-  pub passed-moves : (skip : Bool) → (not skip && eqb (get_or rest i 0) quote) ≡ false → passed quote rest i skip ≡ passed quote rest (i + 1) (not skip && eqb (get_or rest i 0) 92)
-  passed-moves skip e = rw (here skip, e) (place_more i _)
-
-pub passed-ends : (quote : ℕ) (rest : List ℕ) (i : ℕ) (skip : Bool) → length rest ≤ i → passed quote rest i skip ≡ None
-unfolding closing
-passed-ends quote rest i skip le = rw (drop_all i rest le) (nothing skip)
-  where
-    nothing : (skip : Bool) → option_map (λ n. i + n) (closing quote skip []) ≡ None
-    nothing true = refl
-    nothing false = refl
-
-pub passed-start : (quote : ℕ) (rest : List ℕ) → passed quote rest 0 false ≡ closing quote false rest
-passed-start quote rest = place_from_start (closing quote false rest)
+use Rattle.lf_templates.specs.reading.Templates.{comment_len}
 
 -- ---- comments
 

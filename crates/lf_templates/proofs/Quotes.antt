@@ -2,13 +2,14 @@
 use Rattle.std.proofs.Common.{◌≡◌, ◌≢◌, ℕ, suc, Bool, true, false, cond, eqb, List, [], ◌∷◌, ◌++◌, Option, Some, None, length, refl, ap, sym, ◌∙◌, subst, eq-eqb}
 use Rattle.std.specs.Prelude.{option_map}
 use Rattle.std.proofs.lemmas.Bool.{ne_eqb, eqb-false, eqb-true, and_parts}
+use Rattle.lf_base.specs.reading.Closing.{closing}
 use Rattle.lf_templates.specs.Bytes.{starts_with}
 use Rattle.lf_templates.specs.Tokens.{IsActionStringInner, nothing, itself, pair, ends_comment, FreeOf}
-use Rattle.lf_templates.specs.reading.Templates.{closing, comment_len}
+use Rattle.lf_templates.specs.reading.Templates.{comment_len}
 
 -- ---- strings
 
-pub string_read : (quote : ℕ) (inner rest : List ℕ) → quote ≢ 92 → IsActionStringInner quote inner → closing quote false (inner ++ quote ∷ rest) ≡ Some (length inner)
+pub string_read : (quote : ℕ) (inner rest : List ℕ) → quote ≢ 92 → IsActionStringInner quote inner → closing None quote false (inner ++ quote ∷ rest) ≡ Some (length inner)
 unfolding closing
 string_read quote [] rest n nothing = rw (eq-eqb quote quote refl) refl
 string_read quote (b ∷ inner) rest n (itself x y more) = rw (ne_eqb b quote x, ne_eqb b 92 y, string_read quote inner rest n more) refl
@@ -31,12 +32,12 @@ pub some_suc : (o : Option ℕ) (n : ℕ) → option_map suc o ≡ Some n → (m
 some_suc None n e = cc
 some_suc (Some m) n e = (m, refl, cc)
 
-pub string_stands : (quote : ℕ) (skip : Bool) (src : List ℕ) (n : ℕ) → closing quote skip src ≡ Some n → ClosesAt skip quote src n
+pub string_stands : (quote : ℕ) (skip : Bool) (src : List ℕ) (n : ℕ) → closing None quote skip src ≡ Some n → ClosesAt skip quote src n
 unfolding closing
 string_stands quote true [] n e = cc
 string_stands quote false [] n e = cc
 string_stands quote true (b ∷ src) n e =
-    let s = some_suc (closing quote false src) n e in
+    let s = some_suc (closing None quote false src) n e in
     let again = string_stands quote false src s.0 s.1 in
     record { inner = b ∷ again.inner; rest = again.rest; source = ap (λ (xs : List ℕ). b ∷ xs) again.source; len = let l = again.len in s.2 ∙ ap suc l; is = pair again.is }
 string_stands quote false (b ∷ src) n e = by (λ m f. string_stands quote (eqb b 92) src m f) (eqb b quote) refl e
@@ -57,10 +58,10 @@ string_stands quote false (b ∷ src) n e = by (λ m f. string_stands quote (eqb
       is = itself x (eqb-false b 92 is) again.is;
     }
 
-    by : ((m : ℕ) → closing quote (eqb b 92) src ≡ Some m → ClosesAt (eqb b 92) quote src m) → (t : Bool) → eqb b quote ≡ t → cond t (Some 0) (option_map suc (closing quote (eqb b 92) src)) ≡ Some n → ClosesAt false quote (b ∷ src) n
+    by : ((m : ℕ) → closing None quote (eqb b 92) src ≡ Some m → ClosesAt (eqb b 92) quote src m) → (t : Bool) → eqb b quote ≡ t → cond t (Some 0) (option_map suc (closing None quote (eqb b 92) src)) ≡ Some n → ClosesAt false quote (b ∷ src) n
     by again true is e = record { inner = []; rest = src; source = ap (λ (k : ℕ). k ∷ src) (eqb-true b quote is); len = cc; is = nothing }
     by again false is e =
-        let s = some_suc (closing quote (eqb b 92) src) n e in
+        let s = some_suc (closing None quote (eqb b 92) src) n e in
         step (eqb b 92) refl (eqb-false b quote is) s.0 s.2 (again s.0 s.1)
 
 -- ---- comments

@@ -13,9 +13,10 @@ use Rattle.lf_templates.specs.declared.token.Beginning.{Beginning}
 use Rattle.lf_templates.specs.declared.token.Beginning.TheVariants as begins
 use Rattle.lf_base.specs.Names.{begins_label, is_digit, is_in_label}
 use Rattle.lf_base.specs.Rows.{is_no_back_quote, starts, Stops}
+use Rattle.lf_base.specs.reading.Closing.{closing}
 use Rattle.lf_templates.specs.Bytes.{beginning, sign_begins, is_in_number}
 use Rattle.lf_templates.specs.Tokens.{IsActionToken, one_byte, in_quotes, in_back_quotes, a_word, a_variable, a_field, a_number, declares, a_colon, a_comment, a_slash, a_minus, takes_comment}
-use Rattle.lf_templates.specs.reading.Templates.{token, name_len, closing, comment_len, string_front, raw_front, word_front, variable_front, field_front, number_front, colon_front, slash_front, minus_front, front_by, front}
+use Rattle.lf_templates.specs.reading.Templates.{token, name_len, comment_len, string_front, raw_front, word_front, variable_front, field_front, number_front, colon_front, slash_front, minus_front, front_by, front}
 use Rattle.lf_base.proofs.Rows.{row_all, row_then}
 use Rattle.lf_templates.proofs.Quotes.{string_stands, comment_stands}
 use Rattle.lf_templates.proofs.Fronts.{name_le, name_stands}
@@ -78,7 +79,7 @@ module _ (place : TokenContext) (b : ℕ) (src : List ℕ) where
   string_at : (l : Lexeme) → beginning b ≡ begins.Quote → string_front b src ≡ Some l → Stands place (b ∷ src) l
   unfolding string_front
   string_at l k e =
-      let m = mapped (λ n. token tokens.Plain (n + 2)) (closing b false src) l e in
+      let m = mapped (λ n. token tokens.Plain (n + 2)) (closing None b false src) l e in
       let c = string_stands b false src m.0 m.1 in
       let len = length-append c.inner (b ∷ []) in
       let n = c.len in

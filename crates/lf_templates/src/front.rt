@@ -6,9 +6,10 @@ ghost use Rattle.lf_templates.specs.reading.Templates as reading;
 
 use crate::bytes::{ActionByteClass, beginning, row_len, starts, starts_with};
 use crate::names::{field_of, name_len, variable_of, word_of};
-use crate::strings::{closing, comment_len};
+use crate::strings::comment_len;
 use crate::token::{ActionToken, Beginning, Lexeme, TokenContext};
 use lf_base::bytes::{after, before};
+use lf_base::closing;
 
 /// Whether the action ends here.
 pub fn closes(rest: &[u8]) -> bool
@@ -85,7 +86,7 @@ fn behind_blank(place: TokenContext) -> TokenContext
 fn string(quote: u8, rest: &[u8]) -> Option<Lexeme>
     ensures { result ≡ reading.string_front quote rest.now }
 {
-    let len = closing(quote, rest)? + 2;
+    let len = closing(quote, None, rest)? + 2;
     Some(Lexeme {
         token: ActionToken::Plain,
         len,

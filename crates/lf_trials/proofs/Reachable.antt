@@ -7,7 +7,6 @@ use Rattle.std.proofs.lemmas.Bool.{cases_eq, eq-eqb, eqb-true, not-true, or_left
 use Rattle.std.proofs.lemmas.List.Filters.{length-filter_both}
 use Rattle.std.proofs.lemmas.List.FromFn.{length-range_with_len}
 use Rattle.std.proofs.lemmas.List.Sums.{count_by-le-length, length-filter}
-use Rattle.std.proofs.lemmas.Option.{slice_get_within}
 use Rattle.lf_laws.proofs.Booleans.{and_left, and_right}
 use Rattle.lf_laws.proofs.Members.{any_has, behind, same_true, some_has, true_same}
 use Rattle.lf_laws.proofs.Options.{same_option}
@@ -15,7 +14,7 @@ use Rattle.lf_laws.proofs.Slices.{member_at, number_of}
 use Rattle.lf_ast.specs.Labels.{Bytes}
 use Rattle.lf_ast.specs.Rules.{RuleTree}
 use Rattle.lf_ast.specs.Tree.{Tree}
-use Rattle.lf_deps.proofs.Ascending.{Ascends, filter_ascends, in_range, in_without, of_without, range_ascends}
+use Rattle.lf_deps.proofs.Ascending.{Ascends, filter_ascends, in_without, number_in, of_without, range_ascends}
 use Rattle.lf_deps.specs.Ordering.{without}
 use Rattle.lf_deps.specs.Reading.{Reaches, Reads, Selects, selectors}
 use Rattle.lf_semantics.proofs.Members.{in_filter, of_filter}
@@ -148,14 +147,11 @@ module _ (rules : List RuleTree) (target : ℕ → RuleTree → Bool) where
   abbrev pub reaches : Tree → Bool
   reaches e = search (length rules) (range_with_len 0 (length rules)) e
 
-  in_all : (k : ℕ) (r : RuleTree) → slice_get rules k ≡ Some r → Contains (range_with_len 0 (length rules)) k
-  in_all k r at = in_range (length rules) k (slice_get_within rules k r at)
-
   reads_path : (k : ℕ) (r : RuleTree) → slice_get rules k ≡ Some r → r.alert ≡ false → target k r ≡ true → (e : Tree) (name : Bytes) → Reads rules e name → name ≡ r.name → Path rules target (range_with_len 0 (length rules)) e
-  reads_path k r at records t e name (Reads.selected s) same = Path.ends k r (in_all k r at) (record { at = at; records = records; selects = subst (Selects rules e) same s }) t
+  reads_path k r at records t e name (Reads.selected s) same = Path.ends k r (number_in rules k r at) (record { at = at; records = records; selects = subst (Selects rules e) same s }) t
   reads_path k r at records t e name (Reads.through q c recording s reads) same =
       let there = number_of rules q c in
-      Path.goes there.0 q (in_all there.0 q there.2) (record { at = there.2; records = recording; selects = s }) (reads_path k r at records t q.expr name reads same)
+      Path.goes there.0 q (number_in rules there.0 q there.2) (record { at = there.2; records = recording; selects = s }) (reads_path k r at records t q.expr name reads same)
 
   -- a rule that the expression reaches passes the test
   abbrev pub ReachesSome : Tree → Type 0
@@ -221,6 +217,6 @@ module _ (rules : List RuleTree) where
     members = λ k. (
       λ c. let found = (reaches_is rules (is_number k) e).0 (of_filter (λ k. reaches rules (is_number k) e) (range_with_len 0 (length rules)) k c).1 in
           (found.1, subst (λ j. slice_get rules j ≡ Some found.1) (eqb-true found.0 k found.4) found.2, found.3),
-      λ (r, at, reach). in_filter (λ k. reaches rules (is_number k) e) (range_with_len 0 (length rules)) k (in_range (length rules) k (slice_get_within rules k r at)) ((reaches_is rules (is_number k) e).1 (k, r, at, reach, eq-eqb k k refl)),
+      λ (r, at, reach). in_filter (λ k. reaches rules (is_number k) e) (range_with_len 0 (length rules)) k (number_in rules k r at) ((reaches_is rules (is_number k) e).1 (k, r, at, reach, eq-eqb k k refl)),
     );
   }

@@ -17,7 +17,7 @@ use Rattle.lf_ast.specs.declared.functions.LabelEffect.{LabelEffect}
 use Rattle.lf_ast.specs.declared.functions.LabelEffect.TheVariants.{Maps, Keeps, Groups, CountValues, Date, Absent, LabelReplace, LabelJoin, HistogramQuantile, Bare}
 use Rattle.lf_ast.specs.Arguments.{text_at, texts_of}
 use Rattle.lf_semantics.specs.Evaluation.{AreAllPairs, AreEither, AreMade, AreMatched, AreUnmatched, HasPartner, IsBare, IsGrouped, IsJoined, IsQuantile, IsReplaced, LosesName}
-use Rattle.lf_semantics.specs.Grouped.{is_filter}
+use Rattle.lf_semantics.specs.Grouped.{is_filter, out}
 use Rattle.lf_semantics.specs.Parts.{Sought, is_scalar_part, operand_place, sought_in}
 use Rattle.lf_semantics.specs.Strings.{Replacing, joining, replacing}
 use Rattle.lf_semantics.specs.Texts.{value_of}
@@ -171,7 +171,7 @@ module _ (m : Matching) where
     ambiguous_same Left a = alike_same A B right a
     ambiguous_same Right a = alike_same P Q left a
 
-    pairs_same : (op : Op) → PairsCoincide op m P A → PairsCoincide op m Q B
+    pairs_same : (op : Op) → PairsCoincide (out op m) m P A → PairsCoincide (out op m) m Q B
     pairs_same op (s, t, u, v, one, another, other, result) = (
       s,
       t,

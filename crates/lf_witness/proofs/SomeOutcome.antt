@@ -187,7 +187,7 @@ module _ (m : Matching) where
       abbrev WithTwo : Labels → Type 0
       WithTwo s = (t : Labels) × Contains Q t × WithPair s t
 
-      pairs_decided : Decided (PairsCoincide op m P Q)
+      pairs_decided : Decided (PairsCoincide (out op m) m P Q)
       pairs_decided = elim (some_member WithTwo P (λ s. some_member (WithPair s) Q (λ t. some_member (WithSecond s t) P (λ u. some_member (OneResult s t u) Q (one_result_decided s t u))))) [
         | inl found ↦ (
             let t = found.2 in

@@ -154,15 +154,14 @@ IsAmbiguous Right m P Q = HasTwoAlike m P
 abbrev pub IsPair : Matching → List Labels → List Labels → Labels → Labels → Type 0
 IsPair m P Q s t = Contains P s × Contains Q t × SameSignature m s t
 
--- two pairs have one result
-abbrev pub PairsCoincide : Op → Matching → List Labels → List Labels → Type 0
-PairsCoincide op m P Q =
-    (s t u v : Labels) × IsPair m P Q s t × IsPair m P Q u v × ((s ≢ u) ⊎ (t ≢ v)) × (out op m s t ≡ out op m u v)
+-- two pairs have one result, by what a pair gives
+abbrev pub PairsCoincide : (Labels → Labels → Labels) → Matching → List Labels → List Labels → Type 0
+PairsCoincide result m P Q = (s t u v : Labels) × IsPair m P Q s t × IsPair m P Q u v × ((s ≢ u) ⊎ (t ≢ v)) × (result s t ≡ result u v)
 
 -- the results of all pairs, and None where the match isn't unique or two pairs have one result
 abbrev pub StrictPairs : Op → Matching → List Labels → List Labels → Outcomes
-StrictPairs op m P Q None = IsAmbiguous m.group m P Q ⊎ PairsCoincide op m P Q
-StrictPairs op m P Q (Some R) = AreAllPairs op m P Q R × (IsAmbiguous m.group m P Q → ⊥) × (PairsCoincide op m P Q → ⊥)
+StrictPairs op m P Q None = IsAmbiguous m.group m P Q ⊎ PairsCoincide (out op m) m P Q
+StrictPairs op m P Q (Some R) = AreAllPairs op m P Q R × (IsAmbiguous m.group m P Q → ⊥) × (PairsCoincide (out op m) m P Q → ⊥)
 
 -- arithmetic, `bool` and filters give all pairs; the operators of sets ask for no unique match
 abbrev pub StrictCombines : Op → Matching → List Labels → List Labels → Outcomes

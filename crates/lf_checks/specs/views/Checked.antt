@@ -15,7 +15,7 @@ use Rattle.lf_checks.specs.PromqlRegexp as promql_regexp
 use Rattle.lf_checks.specs.RuleDependency as rule_dependency
 use Rattle.lf_checks.specs.RuleLabel as rule_label
 
-pub record Checked : Type 0 where
+pub record CheckerView : Type 0 where
   pub universe : Listing
   pub env : Environment
   pub rules : List Rule

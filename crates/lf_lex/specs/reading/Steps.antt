@@ -11,11 +11,12 @@ use Rattle.lf_lex.specs.declared.token.TokenKind.TheVariants as kinds
 use Rattle.lf_lex.specs.Bytes.{is_blank, is_line_break, begins_word, is_in_word, is_continuation}
 use Rattle.lf_lex.specs.reading.Runs.{run_len, is_number, duration_order}
 use Rattle.lf_lex.specs.Runs.{begins_run}
-use Rattle.lf_lex.specs.reading.Strings.{closing, gives, bytes_of, places_of}
+use Rattle.lf_lex.specs.reading.Strings.{gives, bytes_of, places_of}
 use Rattle.lf_lex.specs.reading.Signs.{sign_at}
 use Rattle.lf_lex.specs.Tokens.{in_source}
 use Rattle.lf_base.specs.declared.fault.Fault.{Fault}
 use Rattle.lf_base.specs.Faults.{fault}
+use Rattle.lf_base.specs.reading.Closing.{closing}
 
 abbrev pub breach : {X : Type 0} → List ℕ → Kind → ℕ → ℕ → Result X Fault
 breach from kind start end = Err (fault kind (in_source from start end))
@@ -59,7 +60,7 @@ quoted_is from at quote src None = breach from OpenString at (at + 1)
 quoted_is from at quote src (Some n) = value_front from at quote (take n src)
 
 unfoldable pub quoted_front : List ℕ → ℕ → List ℕ → Result Front Fault
-quoted_front from at src = quoted_is from at (slice_index src 0) (drop 1 src) (closing (slice_index src 0) 0 (drop 1 src))
+quoted_front from at src = quoted_is from at (slice_index src 0) (drop 1 src) (closing (Some 10) (slice_index src 0) false (drop 1 src))
 
 -- a string in back quotes, which is taken as it stands
 unfoldable pub raw_front : List ℕ → ℕ → List ℕ → Result Front Fault

@@ -1,15 +1,8 @@
--- A way of reading strings in quotes, which defines nothing: where they close, and what their escapes give.
-use Rattle.std.specs.Prelude.{ℕ, zero, suc, ◌+◌, ◌*◌, ◌-◌, List, [], ◌∷◌, ◌++◌, map, slice_index, drop, Bool, ◌==◌, ◌&&◌, ◌||◌, nat_lt, Option, Some, None, option_map, encode_utf8, if◌then◌else◌}
+-- A way of reading strings in quotes, which defines nothing: what their escapes give.
+use Rattle.std.specs.Prelude.{ℕ, zero, suc, ◌+◌, ◌*◌, ◌-◌, List, [], ◌∷◌, ◌++◌, map, slice_index, drop, Bool, ◌==◌, ◌&&◌, ◌||◌, nat_lt, Option, Some, None, encode_utf8, if◌then◌else◌}
 use Rattle.lf_lex.specs.Bytes.{is_octal}
 use Rattle.lf_base.specs.Names.{is_digit, hexadecimal_value}
 use Rattle.lf_lex.specs.Strings.{byte_of_letter}
-
--- How many bytes stand before the quote that closes, where one does on the line. A backslash takes the byte behind it with it, so that this one closes nothing.
--- `skipped` bytes at the front are behind a backslash.
-unfoldable pub closing : ℕ → ℕ → List ℕ → Option ℕ
-closing quote skipped [] = None
-closing quote (suc skipped) (b ∷ src) = if b == 10 then None else option_map suc (closing quote skipped src)
-closing quote zero (b ∷ src) = if b == quote then Some 0 else if b == 10 then None else option_map suc (closing quote (if b == 92 then 1 else 0) src)
 
 -- ---- escapes
 

@@ -1,5 +1,5 @@
 -- Pairs of a many side and a one side, as the code matches them: the one side under its signatures, and what a pair gives.
-use Rattle.std.specs.Prelude.{◌≡◌, ◌≢◌, ◌⊎◌, cond, List, [], ◌∷◌, Option, Some, None}
+use Rattle.std.specs.Prelude.{◌≡◌, ◌⊎◌, cond, List, [], ◌∷◌, Option, Some, None}
 use Rattle.std.specs.BTreeMap.{BTreeMap, get}
 use Rattle.std.specs.List.{Contains}
 use Rattle.std.specs.Ordering.{eq_by_cmp}
@@ -12,7 +12,7 @@ use Rattle.lf_ast.specs.declared.expr.Op.{Op}
 use Rattle.lf_semantics.specs.Grouped.{keeps, many_to_one, signs}
 use Rattle.lf_semantics.specs.Texts.{HasTexts, restricted}
 use Rattle.lf_witness.specs.Ascending.{labels_cmp}
-use Rattle.lf_witness.specs.Strict.{HasTwoAlike, IsPair, Outcomes}
+use Rattle.lf_witness.specs.Strict.{HasTwoAlike, IsPair, Outcomes, PairsCoincide}
 
 abbrev pub signature_of : Matching → Labels → Labels
 signature_of m s = restricted (signs m) s
@@ -55,11 +55,6 @@ with_one op m ones s = with_found op m (get labels_cmp ones) s
 abbrev pub with_only : Op → Matching → Labels → Labels → List Labels
 with_only op m one s = cond (eq_by_cmp labels_cmp (signature_of m s) (signature_of m one)) (result_of m.group op m s one ∷ []) []
 
--- two pairs have one result
-abbrev pub ManyCoincide : Op → Matching → List Labels → List Labels → Type 0
-ManyCoincide op m P Q =
-    (s t u v : Labels) × IsPair m P Q s t × IsPair m P Q u v × ((s ≢ u) ⊎ (t ≢ v)) × (result_of m.group op m s t ≡ result_of m.group op m u v)
-
 -- the results of all pairs
 abbrev pub AreManyPairs : Op → Matching → List Labels → List Labels → List Labels → Type 0
 AreManyPairs op m P Q R =
@@ -68,5 +63,5 @@ AreManyPairs op m P Q R =
 
 -- what the many side P gives with the one side Q, and None where two samples of the one side have equal signatures or two pairs one result
 abbrev pub ManyPairs : Op → Matching → List Labels → List Labels → Outcomes
-ManyPairs op m P Q None = HasTwoAlike m Q ⊎ ManyCoincide op m P Q
-ManyPairs op m P Q (Some R) = AreManyPairs op m P Q R × (HasTwoAlike m Q → ⊥) × (ManyCoincide op m P Q → ⊥)
+ManyPairs op m P Q None = HasTwoAlike m Q ⊎ PairsCoincide (result_of m.group op m) m P Q
+ManyPairs op m P Q (Some R) = AreManyPairs op m P Q R × (HasTwoAlike m Q → ⊥) × (PairsCoincide (result_of m.group op m) m P Q → ⊥)

@@ -24,6 +24,7 @@ use Rattle.lf_base.specs.declared.fault.Fault.{Fault}
 use Rattle.lf_templates.specs.Source.{in_source}
 use Rattle.lf_base.specs.Names.{begins_label, is_in_label}
 use Rattle.lf_base.specs.Rows.{is_no_back_quote, starts}
+use Rattle.lf_base.specs.reading.Closing.{closing}
 use Rattle.lf_templates.specs.Bytes.{beginning, is_in_number}
 use Rattle.lf_templates.specs.Tokens.{word_of, variable_of, field_of, takes_comment, ends_comment, closes, is_trim, behind}
 use Rattle.lf_templates.specs.Actions.{tokens_of, first, is_field, is_sound, sets_labels}
@@ -45,19 +46,13 @@ unfoldable pub name_len : List ℕ → ℕ
 name_len [] = 0
 name_len (b ∷ src) = if begins_label b then 1 + prefix_len is_in_label src else 0
 
--- How many bytes stand before the quote that closes. `skip` says that a backslash stands before the first.
-unfoldable pub closing : ℕ → Bool → List ℕ → Option ℕ
-closing quote skip [] = None
-closing quote true (b ∷ src) = option_map suc (closing quote false src)
-closing quote false (b ∷ src) = if b == quote then Some 0 else option_map suc (closing quote (b == 92) src)
-
 -- how many bytes stand before the first */
 unfoldable pub comment_len : List ℕ → Option ℕ
 comment_len [] = None
 comment_len (b ∷ src) = if ends_comment (b ∷ src) then Some 0 else option_map suc (comment_len src)
 
 unfoldable pub string_front : ℕ → List ℕ → Option Lexeme
-string_front quote src = option_map (λ n. token tokens.Plain (n + 2)) (closing quote false src)
+string_front quote src = option_map (λ n. token tokens.Plain (n + 2)) (closing None quote false src)
 
 unfoldable pub raw_front : List ℕ → Option Lexeme
 raw_front src = let n = prefix_len is_no_back_quote src in if nat_lt n (length src) then Some (token tokens.Plain (n + 2)) else None

@@ -14,7 +14,7 @@ use Rattle.lf_semantics.proofs.NormalizedRows.{rule_row_is}
 use Rattle.lf_checks.specs.AlertTemplate.{HaveSources}
 use Rattle.lf_checks.specs.Files.{StandIn}
 use Rattle.lf_checks.specs.Findings.{IsFindingIn}
-use Rattle.lf_checks.specs.views.Checked.{Checked}
+use Rattle.lf_checks.specs.views.Checked.{CheckerView}
 use Rattle.lf_checks.specs.views.Duplicates.{AreFirsts, IsFirstOf}
 use Rattle.lf_checks.specs.views.Shown.{AreNumbered, Lists}
 use Rattle.lf_checks.proofs.Checking.{numbered_three, of_three}
@@ -23,7 +23,7 @@ use Rattle.lf_checks.proofs.checker.Checker.found.Goals as goal
 pub of_rule-requires-clause-shape : goal.of_rule-requires-clause-shape
 of_rule-requires-clause-shape c =
     let u : Listing = c.self.inside.universe.now in
-    let ok = subst (λ (v : Checked). IsEnvironment v.universe v.env) (sym c.self.view_is) c.requires.env in
+    let ok = subst (λ (v : CheckerView). IsEnvironment v.universe v.env) (sym c.self.view_is) c.requires.env in
     let listing : IsListing u = c.self.invariant.0 in
     subst (λ (row : Sets). HasShape u row) (sym c.in_ok-row.ensures) (rule_row_is u listing c.self.inside.env.now ok (rule_tree c.get-rule.result.now)).0
 
@@ -33,7 +33,7 @@ of_rule-requires-clause-sources c t k =
     let r : Rule = c.get-rule.result.now in
     let is : slice_get rules c.args.i ≡ Some r = c.get-rule.ensures.value in
     let member : Contains rules r = (c.args.i, slice_get_within rules c.args.i r is, get_or_from_slice_get rules c.args.i r r is) in
-    let sources = subst (λ (v : Checked). HaveSources (rule_trees v.rules)) (sym c.self.view_is) c.requires.sources in
+    let sources = subst (λ (v : CheckerView). HaveSources (rule_trees v.rules)) (sym c.self.view_is) c.requires.sources in
     sources (rule_tree r) (in_map rule_tree rules r member) t k
 
 pub of_parts-requires-clause-listing : goal.of_parts-requires-clause-listing
@@ -62,8 +62,8 @@ returns-clause-findings c =
     let all : List Row = c.in_ok-all.all.items in
     let same : List Row = c.in_ok-same.same.items in
     λ files stand.
-    let here = subst (λ (v : Checked). StandIn files (rule_trees v.rules)) (sym c.self.view_is) stand in
-    subst (λ (v : Checked). Lists files (rule_trees v.rules) (IsFindingIn files v.universe (rule_trees v.rules) v.env i) all) c.self.view_is
+    let here = subst (λ (v : CheckerView). StandIn files (rule_trees v.rules)) (sym c.self.view_is) stand in
+    subst (λ (v : CheckerView). Lists files (rule_trees v.rules) (IsFindingIn files v.universe (rule_trees v.rules) v.env i) all) c.self.view_is
     (of_three files u trees env i r at c.in_ok-row.row c.in_ok-row.ensures c.in_ok-own.own.items c.in_ok-parts.parts.items same two all c.in_ok-own.ensures
     (c.in_ok-parts.ensures env c.in_ok-rows.ensures.some trees c.self.invariant.1) (c.in_ok-same.ensures.findings files trees i here at first) c.in_ok-two.ensures c.in_ok-all.ensures)
 
@@ -80,7 +80,7 @@ returns-clause-numbers c files =
     let two : List Row = c.in_ok-two.two.items in
     let all : List Row = c.in_ok-all.all.items in
     let same : List Row = c.in_ok-same.same.items in
-    subst (λ (v : Checked). AreNumbered files (rule_trees v.rules) i all) c.self.view_is
+    subst (λ (v : CheckerView). AreNumbered files (rule_trees v.rules) i all) c.self.view_is
     (numbered_three files trees i c.in_ok-own.own.items c.in_ok-parts.parts.items same two all c.in_ok-own.ensures.numbers (c.in_ok-parts.ensures env c.in_ok-rows.ensures.some trees c.self.invariant.1).numbers
     (c.in_ok-same.ensures.numbers files trees i at first) c.in_ok-two.ensures c.in_ok-all.ensures)
 
@@ -92,7 +92,7 @@ returns-clause-empty c =
     let rules : List Rule = c.self.inside.rules.now in
     let rule : Rule = c.get-rule.result.now in
     let here : slice_get (rule_trees rules) i ≡ Some (rule_tree rule) = slice_get-map rule_tree rules i ∙ ap (option_map rule_tree) c.get-rule.ensures.value in
-    subst (λ (v : Checked). (r : RuleTree) → slice_get (rule_trees v.rules) i ≡ Some r → c.is_empty.result ≡ not (is_live (rule_row v.universe v.env r))) c.self.view_is
+    subst (λ (v : CheckerView). (r : RuleTree) → slice_get (rule_trees v.rules) i ≡ Some r → c.is_empty.result ≡ not (is_live (rule_row v.universe v.env r))) c.self.view_is
     (λ r at.
     let both : Some (rule_tree rule) ≡ Some r = sym here ∙ at in
     let same : rule_tree rule ≡ r = cc in
