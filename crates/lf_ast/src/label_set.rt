@@ -13,6 +13,9 @@ use std::alloc::{AllocError, Global};
 use std::cmp::Ordering;
 use std::marker::Model;
 
+/// How many labels a set that gets its first one has room for. Most series of the worlds that show a verdict have no more: a metric name and a label.
+const FIRST_ROOM: usize = 2;
+
 /// A choice among labels by their names.
 pub trait LabelChoice {
     /// Whether a label is chosen.
@@ -181,6 +184,9 @@ fn put(entries: &mut Vec<(Text, Text)>, name: &Text, text: &Text) -> Result<(), 
         }
         Err(k) => {
             let name = name.copy()?;
+            if entries.is_empty() {
+                entries.reserve_exact(FIRST_ROOM)?;
+            }
             entries.insert(k, (name, text))?;
             Ok(())
         }
@@ -215,7 +221,7 @@ fn chosen<C: LabelChoice>(
 fn copies(alloc: Global, entries: &[(Text, Text)]) -> Result<Vec<(Text, Text)>, Memory>
     ensures { IfOk result (λ copied. copied.items ≡ entries.now) }
 {
-    let mut copied = Vec::new(alloc);
+    let mut copied = Vec::with_capacity(alloc, entries.len())?;
     for entry in entries {
         copied.push((entry.0.copy()?, entry.1.copy()?))?;
     }
