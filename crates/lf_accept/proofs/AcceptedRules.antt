@@ -4,20 +4,16 @@ use Rattle.std.proofs.lemmas.Bool.{false≢true}
 use Rattle.std.specs.List.{AllByRecursion, AllZip, Contains, IsDistinct}
 use Rattle.std.specs.Str.{bytes_eq}
 use Rattle.lf_ast.specs.Labels.{Bytes}
-use Rattle.lf_ast.specs.Types.{HasType}
-use Rattle.lf_ast.specs.declared.expr.ExprType.{ExprType}
-use Rattle.lf_base.specs.declared.fault.Fault.{Fault}
 use Rattle.lf_ast.specs.Rules.{RuleTree}
 use Rattle.lf_ast.specs.declared.rule.RuleLabel.{RuleLabel}
 use Rattle.lf_rules.specs.Mappings.{Pairing, pairs, trees}
 use Rattle.lf_rules.specs.Rules.{AreFileGroups, AreGroups, AreRules, AreSettings, IsAlert, IsGroupTree, IsRecord, IsRule, IsRuleTree, IsRules, SetsText}
 use Rattle.lf_rules.specs.Sources.{Setting, Source}
 use Rattle.lf_base.specs.Names.{is_label_name, is_metric_name, metric}
-use Rattle.lf_semantics.specs.PatternBreaches.{BreaksPatterns}
 use Rattle.lf_semantics.specs.Worlds.{SetsNoName}
 use Rattle.lf_semantics.proofs.Members.{all_of, first_or_behind, none_in}
 use Rattle.lf_yaml.specs.Tree.{Tree, leaf, sequence, mapping, Entries}
-use Rattle.lf_accept.specs.Accepted.{IsAccepted, IsAcceptedRule, label_of}
+use Rattle.lf_accept.specs.Accepted.{IsAccepted, IsAcceptedRule, IsJudged, label_of}
 use Rattle.lf_accept.proofs.DistinctKeys.{EntriesDiffer, GivenDiffers, KeysDiffer, given_differs, key_of, keys_differ, keys_distinct, trees_differ}
 use Rattle.lf_laws.proofs.Members.{all_append}
 
@@ -122,12 +118,9 @@ all_named (mapping es span) ss d h = of_file _ ss (given_differs (codes "groups"
 
 -- ---- accepted rules
 
--- what holds of an accepted rule: its expression has a type and breaks nothing by its patterns and its selectors, a recorded name is a metric name, and its labels are
--- label names other than the metric's name, each once
+-- what holds of an accepted rule: its expression stands as judged, a recorded name is a metric name, and its labels are label names other than the metric's name, each once
 pub record IsJudgedRule (r : RuleTree) : Type 0 where
-  pub type : ExprType
-  pub has_type : HasType r.expr type
-  pub unbroken : (f : Fault) → BreaksPatterns r.expr f → ⊥
+  pub judged : IsJudged r.expr
   pub name : r.alert ≡ false → is_metric_name r.name ≡ true
   pub labels : AllByRecursion (λ l. is_label_name l.key ≡ true) r.labels
   pub no_name : SetsNoName r
@@ -148,9 +141,7 @@ module _ (file : ℕ) where
       let alert : r.alert ≡ s.alert = ap (λ x. x.alert) is.1 in
       let name : r.name ≡ s.name.text = ap (λ x. x.name) is.1 in
       record {
-        type = is.0.type;
-        has_type = is.0.has_type;
-        unbroken = is.0.unbroken;
+        judged = is.0.judged;
         name = λ h. subst (λ t. is_metric_name t ≡ true) (sym name) (named.name (sym alert ∙ h));
         labels = subst (AllByRecursion (λ (l : RuleLabel). is_label_name l.key ≡ true)) (sym labels) (all_labels (λ t. is_label_name t ≡ true) s.labels named.labels);
         no_name = subst (AllByRecursion (λ (l : RuleLabel). l.key ≢ metric)) (sym labels) (all_labels (λ t. t ≢ metric) s.labels named.no_name);

@@ -18,8 +18,8 @@ use Rattle.lf_parse.proofs.Answering.{one_reading as one_parsing}
 use Rattle.lf_scalar.specs.Cells.{Value}
 use Rattle.lf_semantics.specs.PatternBreaches.{BreaksPatterns, TellsPattern}
 use Rattle.lf_semantics.proofs.PatternFaults.{tells_one}
-use Rattle.lf_accept.specs.Accepted.{BreaksExpr, IsExpr, bad_pattern, bad_tokens, end_of, no_expression, no_type}
-use Rattle.lf_accept.specs.views.Checked.{BreaksJudged, IsJudged}
+use Rattle.lf_accept.specs.Accepted.{BreaksExpr, IsExpr, IsJudged, bad_pattern, bad_tokens, end_of, no_expression, no_type}
+use Rattle.lf_accept.specs.views.Checked.{BreaksJudged}
 use Rattle.lf_accept.proofs.Chained.{Both, BreaksEither, chained, in_other_words}
 
 -- ---- an expression stands as judged, or breaks something
@@ -76,10 +76,10 @@ module _ (v : Value) where
   to : (e : Tree) → Reads e → IsExpr v e
   to e h =
       let is : e ≡ h.2.0 = h.2.2.0 in
-      subst (IsExpr v) (sym is) (record { tokens = h.0; are_tokens = h.1; expression = h.2.1; type = h.2.2.1.type; has_type = h.2.2.1.has_type; unbroken = h.2.2.1.unbroken })
+      subst (IsExpr v) (sym is) (record { tokens = h.0; are_tokens = h.1; expression = h.2.1; judged = h.2.2.1 })
 
   from : (e : Tree) → IsExpr v e → Reads e
-  from e h = (h.tokens, h.are_tokens, (e, h.expression, (refl, record { type = h.type; has_type = h.has_type; unbroken = h.unbroken })))
+  from e h = (h.tokens, h.are_tokens, (e, h.expression, (refl, h.judged)))
 
   breaks : (f : Fault) → BreaksReads f → BreaksExpr v f
   breaks f (inl h) = bad_tokens h

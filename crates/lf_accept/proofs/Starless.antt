@@ -36,7 +36,7 @@ module _ (file : ℕ) where
   each_expr_free (s ∷ sources) [] all = absurd all
   each_expr_free (s ∷ sources) (r ∷ rules) all =
       let is = all.0.0 in
-      (starless s.expr.from s.expr.text is.tokens r.expr is.type is.are_tokens is.expression.1 is.has_type, each_expr_free sources rules all.1)
+      (starless s.expr.from s.expr.text is.tokens r.expr is.judged.type is.are_tokens is.expression.1 is.judged.has_type, each_expr_free sources rules all.1)
 
   rules_free : (rules : List RuleTree) → AllByRecursion IsWalkedFree rules → ((r : RuleTree) → Contains rules r → AllByRecursion (λ l. is_label_name l.key ≡ true) r.labels) → NoneStar (rules_mentions rules)
   rules_free [] walked labels = tt

@@ -62,7 +62,7 @@ pub at_judged : (ts : List Token) (end : ℕ) (expr : Tree) (e : Refusal) → Is
 at_judged ts end expr e x = at_by (BreaksJudged expr) (BreakJudged ts end) (λ f h. inr (expr, x, h)) e
 
 pub is_expr : (v : Value) (ts : List Token) (r : Result Expr Refusal) → Tokens v.from v.text ts → Found tree (AreJudged ts) r → Found tree (IsExpr v) r
-is_expr v ts (Ok e) h k = record { tokens = ts; are_tokens = h; expression = k.0; type = k.1.type; has_type = k.1.has_type; unbroken = k.1.unbroken }
+is_expr v ts (Ok e) h k = record { tokens = ts; are_tokens = h; expression = k.0; judged = k.1 }
 is_expr v ts (Err e) h k = tt
 
 module _ (v : Value) (ts : List Token) (end : ℕ) (is : end ≡ end_of v) (h : Tokens v.from v.text ts) where

@@ -31,14 +31,18 @@ use Rattle.lf_yaml.specs.Tree.{Tree as FileTree}
 abbrev pub end_of : Value → ℕ
 end_of v = slice_index v.from (length v.text)
 
--- a scalar's text is tokens, and these are an expression within the bounds, which has a type and breaks nothing by its patterns and its selectors
+-- an expression has a type, and breaks nothing by its patterns and its selectors
+pub record IsJudged (e : Tree) : Type 0 where
+  pub type : ExprType
+  pub has_type : HasType e type
+  pub unbroken : (f : Fault) → BreaksPatterns e f → ⊥
+
+-- a scalar's text is tokens, and these are an expression within the bounds, which stands as judged
 pub record IsExpr (v : Value) (e : Tree) : Type 0 where
   pub tokens : List Token
   pub are_tokens : Tokens v.from v.text tokens
   pub expression : IsExpression tokens e
-  pub type : ExprType
-  pub has_type : HasType e type
-  pub unbroken : (f : Fault) → BreaksPatterns e f → ⊥
+  pub judged : IsJudged e
 
 -- what breaks the expression that is to stand in a scalar: its tokens, its depth and syntax, its types, its patterns and selectors
 pub data BreaksExpr (v : Value) : Fault → Type 0 where

@@ -12,6 +12,7 @@ use crate::allowance::PatternAllowance;
 use crate::rules::rules_of;
 use lf_ast::Rule;
 use lf_base::{Refusal, Seq};
+use lf_classes::ReadPatterns;
 use lf_rules::{RuleSource, read_rules};
 use lf_yaml::read_tree;
 use std::alloc::Global;
@@ -80,7 +81,8 @@ fn read(
     ensures counted { IfOk result (λ rules. TakesAllowance (sum_by count_of_rule (rule_trees rules)) allowance.old allowance.new) }
 {
     let sources = sources_of(alloc, bytes)?;
-    rules_of(alloc, allowance, sources.as_slice(), file)
+    let mut known = ReadPatterns::new(alloc);
+    rules_of(alloc, allowance, &mut known, sources.as_slice(), file)
 }
 
 /// The rules as they stand in a file, their expressions unread.

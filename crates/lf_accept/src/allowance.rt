@@ -17,8 +17,8 @@ const OF_EACH: u64 = 32;
 
 /// What is left of what the patterns of a file may count.
 ///
-/// A pattern is read as often as it stands in a file, and how long that takes `regex` tells only once it has read it. So what it counts goes by its text alone, and it is taken
-/// before the pattern is read.
+/// How long it takes to read a pattern `regex` tells only once it has read it. So what it counts goes by its text alone, and it is taken before the pattern is read. It is taken as
+/// often as the pattern stands in the file, though it is read once.
 #[derive(Drop)]
 pub struct PatternAllowance {
     left: u64,

@@ -6,18 +6,18 @@ ghost use Rattle.lf_ast.specs.Inside.{Inside};
 ghost use Rattle.lf_ast.specs.Tree.{tree};
 ghost use Rattle.lf_lex.specs.Tokens.{LieIn};
 ghost use Rattle.lf_scalar.specs.Scalars.{value};
-ghost use Rattle.lf_accept.specs.Accepted.{BreaksExpr, IsExpr};
+ghost use Rattle.lf_accept.specs.Accepted.{BreaksExpr, IsExpr, IsJudged};
 ghost use Rattle.lf_accept.specs.Allowance.{TakesAllowance, count_in};
 ghost use Rattle.lf_accept.specs.Sizes.{has_large_pattern};
 ghost use Rattle.lf_accept.specs.Taken.{taken_at};
-ghost use Rattle.lf_accept.specs.views.Checked.{AreJudged, BreakJudged, BreaksJudged, IsJudged, judged_taken, read_taken};
+ghost use Rattle.lf_accept.specs.views.Checked.{AreJudged, BreakJudged, BreaksJudged, judged_taken, read_taken};
 
 use crate::allowance::PatternAllowance;
 use crate::patterns::patterns_of;
 use crate::sizes::is_some_too_large;
 use lf_ast::{Expr, type_of};
 use lf_base::{Refusal, Seq};
-use lf_classes::check_patterns;
+use lf_classes::{ReadPatterns, check_patterns_by};
 use lf_lex::{Token, lex};
 use lf_parse::parse;
 use lf_scalar::Scalar;
@@ -29,6 +29,7 @@ use std::alloc::Global;
 pub fn read_expr(
     alloc: Global,
     allowance: &mut PatternAllowance,
+    known: &mut ReadPatterns,
     scalar: &Scalar,
 ) -> Result<Expr, Refusal>
     ensures found { Found tree (IsExpr (value scalar.now)) result }
@@ -41,13 +42,14 @@ pub fn read_expr(
 {
     let tokens = lex(alloc, &scalar.text, &scalar.from)?;
     let end = scalar.from.as_slice()[scalar.text.len()];
-    read_tokens(alloc, allowance, &tokens, end)
+    read_tokens(alloc, allowance, known, &tokens, end)
 }
 
 /// The expression that tokens are, which was judged. `end` is the offset of the text's end.
 fn read_tokens(
     alloc: Global,
     allowance: &mut PatternAllowance,
+    known: &mut ReadPatterns,
     tokens: &Seq<Token>,
     end: u32,
 ) -> Result<Expr, Refusal>
@@ -58,7 +60,7 @@ fn read_tokens(
     ensures spent { Refused (λ f. (breach : BreakJudged tokens.now end f) × TakesAllowance (read_taken tokens.now end f breach) allowance.old allowance.new) result }
 {
     let expr = parse(alloc, tokens, end)?;
-    match judge(alloc, allowance, &expr) {
+    match judge(alloc, allowance, known, &expr) {
         Ok(()) => Ok(expr),
         Err(refusal) => Err(refusal),
     }
@@ -66,7 +68,12 @@ fn read_tokens(
 
 /// Judges an expression: its types, and then its patterns and selectors. Where a pattern is too large to be read, or the patterns count more than is left of the file's
 /// allowance, memory is wanting, and none of them is read.
-fn judge(alloc: Global, allowance: &mut PatternAllowance, expr: &Expr) -> Result<(), Refusal>
+fn judge(
+    alloc: Global,
+    allowance: &mut PatternAllowance,
+    known: &mut ReadPatterns,
+    expr: &Expr,
+) -> Result<(), Refusal>
     ensures found { OnOk result (IsJudged (tree expr.now)) }
     ensures refused { Refused (BreaksJudged (tree expr.now)) result }
     ensures refused_inside { (n : ℕ) → Inside n (tree expr.now) → RefusedIn n result }
@@ -82,5 +89,6 @@ fn judge(alloc: Global, allowance: &mut PatternAllowance, expr: &Expr) -> Result
         return Err(Refusal::Memory);
     }
     allowance.take_each(alloc, patterns.as_slice())?;
-    check_patterns(alloc, expr)
+    known.learn(alloc, patterns.as_slice())?;
+    check_patterns_by(alloc, known, expr)
 }

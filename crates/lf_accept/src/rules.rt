@@ -1,5 +1,5 @@
 //! The rules of a file, each with its expression.
-ghost use Rattle.std.specs.Prelude.{◌≡◌, ◌++◌, ◌≤◌, ℕ, [], map, IfOk, OnOk};
+ghost use Rattle.std.specs.Prelude.{◌≡◌, ◌++◌, ◌≤◌, ℕ, map, IfOk, OnOk};
 ghost use Rattle.std.specs.List.{AllZip, sum_by};
 ghost use Rattle.lf_ast.specs.declared.rule.RuleLabel.{RuleLabel};
 ghost use Rattle.lf_rules.specs.Sources.{SourcesInside, setting, source as source_of};
@@ -15,6 +15,7 @@ use crate::allowance::PatternAllowance;
 use crate::expression::read_expr;
 use lf_ast::{Rule, RuleLabel, Template};
 use lf_base::{Memory, Refusal, Seq};
+use lf_classes::ReadPatterns;
 use lf_rules::{Pair, RuleSource};
 use std::alloc::Global;
 
@@ -22,6 +23,7 @@ use std::alloc::Global;
 pub fn rules_of(
     alloc: Global,
     allowance: &mut PatternAllowance,
+    known: &mut ReadPatterns,
     sources: &[RuleSource],
     file: u32,
 ) -> Result<Seq<Rule>, Refusal>
@@ -32,26 +34,19 @@ pub fn rules_of(
     ensures taken { IfOk result (λ rules. TakesAllowance (sum_by count_of_rule (rule_trees rules)) allowance.old allowance.new) }
     ensures spent { Refused (λ f. (n : ℕ) × RulesTake (map source_of sources.now) n × TakesAllowance n allowance.old allowance.new) result }
 {
-    let mut rules = no_rules(alloc, sources.len())?;
+    let mut rules = Seq::with_capacity(alloc, sources.len())?;
     for source in sources {
-        let rule = rule_of(alloc, allowance, source, file)?;
+        let rule = rule_of(alloc, allowance, known, source, file)?;
         rules.push(rule)?;
     }
     Ok(rules)
-}
-
-/// No rules, with room for so many.
-fn no_rules(alloc: Global, count: usize) -> Result<Seq<Rule>, Memory>
-    ensures { IfOk result (λ rules. rules ≡ []) }
-{
-    let room = Vec::with_capacity(alloc, count)?;
-    Ok(Seq::from_vec(room))
 }
 
 /// A rule as it stands in a file, with its expression.
 fn rule_of(
     alloc: Global,
     allowance: &mut PatternAllowance,
+    known: &mut ReadPatterns,
     source: &RuleSource,
     file: u32,
 ) -> Result<Rule, Refusal>
@@ -64,7 +59,7 @@ fn rule_of(
     let name = source.name.text.copy()?;
     let labels = labels_of(alloc, source.labels.as_slice())?;
     let templates = templates_of(alloc, source)?;
-    let expr = read_expr(alloc, allowance, &source.expr)?;
+    let expr = read_expr(alloc, allowance, known, &source.expr)?;
     Ok(Rule {
         file,
         alert: source.alert,

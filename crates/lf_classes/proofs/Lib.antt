@@ -2,11 +2,11 @@ pub mod Arguments
 pub mod Changes
 pub mod Covered
 pub mod Cutting
+pub mod EachElement
 pub mod FaultsFound
 pub mod Keys
 pub mod LabelChanges
 pub mod Listed
-pub mod PatternPlaces
 pub mod Places
 pub mod Puts
 pub mod RecordedNames
@@ -15,6 +15,7 @@ pub mod RowWords
 pub mod Seen
 pub mod TextClasses
 pub mod TextSlots
+pub mod TextValues
 pub mod Unread
 pub mod Walks
 pub mod WholeWords

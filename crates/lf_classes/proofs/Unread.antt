@@ -1,13 +1,8 @@
 -- What a pattern that can be read passes, and one that can't.
-use Rattle.std.proofs.Common.{◌≡◌, Bool, true, false, not, ◌&&◌, ◌||◌, List, ℕ, Option, Some, None, is_some, refl, sym, ap}
+use Rattle.std.proofs.Common.{◌≡◌, Bool, true, false, not, ◌&&◌, ◌||◌, List, ℕ, Option, Some, None, is_some, refl, ap}
 use Rattle.std.specs.Option.{option_map_or}
 use Rattle.std.specs.List.{list_any}
 use Rattle.std.specs.Str.{bytes_eq}
-use Rattle.lf_base.specs.declared.kind.Kind.TheVariants.{BadPattern}
-use Rattle.lf_base.specs.declared.place.Span.{Span}
-use Rattle.lf_base.specs.Faults.{fault, when}
-use Rattle.lf_semantics.proofs.PatternFaults.{unread_is}
-use Rattle.lf_classes.specs.reading.Checking.{unread_fault}
 use Rattle.lf_pattern.specs.Matching.{IsRead, is_read, matches}
 use Rattle.lf_pattern.specs.Read.{reading}
 use Rattle.lf_pattern.specs.Scan.{alternatives_of}
@@ -30,11 +25,3 @@ unread_passes p value e = ap (λ b. b && not (matches p value)) e
 -- a pattern that can be read passes what it doesn't match
 pub read_passes : (p value : List ℕ) → IsRead p → (is_read p && not (matches p value)) ≡ not (matches p value)
 read_passes p value r = ap (λ b. b && not (matches p value)) ((read_is p).1 r)
-
--- the breach of a pattern
-
-pub no_fault : (p : List ℕ) (span : Span) → IsRead p → None ≡ unread_fault p span
-no_fault p span r = sym (ap (λ b. when (not b) (fault BadPattern span)) ((read_is p).1 r))
-
-pub own_fault : (p : List ℕ) (span : Span) → (IsRead p → ⊥) → Some (fault BadPattern span) ≡ unread_fault p span
-own_fault p span n = sym (ap (λ b. when (not b) (fault BadPattern span)) ((unread_is p).1 n))

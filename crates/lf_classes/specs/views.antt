@@ -4,5 +4,6 @@ pub mod Cut
 pub mod Mentioned
 pub mod MentionedAlong
 pub mod PatternCache
+pub mod TextMaps
 pub mod TextSets
 pub mod UniverseParts

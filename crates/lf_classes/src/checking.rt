@@ -8,6 +8,7 @@ ghost use Rattle.lf_classes.specs.Checked.{HasNoBreach};
 ghost use Rattle.lf_classes.specs.reading.Checking.{pattern_fault, patterns_checked};
 ghost use Rattle.lf_semantics.specs.PatternBreaches.{TellsPattern};
 
+use crate::ReadPatterns;
 use crate::patterns::{call_fault, selector_fault};
 use lf_ast::Expr;
 use lf_ast::walk::{Fold, Parts, fold_up};
@@ -30,14 +31,30 @@ pub fn check_patterns(alloc: Global, expr: &Expr) -> Result<(), Refusal>
     // In a source that each span of the expression lies in lies what is refused, too.
     ensures refused_inside { (n : ℕ) → Inside n (tree expr.now) → RefusedIn n result }
 {
-    check(alloc, expr)
+    check_patterns_by(alloc, &ReadPatterns::new(alloc), expr)
+}
+
+/// The same, where some patterns may be known: of those that were read none is read again for whether it can be.
+pub fn check_patterns_by(alloc: Global, known: &ReadPatterns, expr: &Expr) -> Result<(), Refusal>
+    // Where it passes, nothing is wrong.
+    ensures found { Found (λ t. t) (HasNoBreach (tree expr.now)) result }
+    // Where nothing is wrong it passes, unless memory runs out.
+    ensures only { Only (λ t. t) (HasNoBreach (tree expr.now)) result }
+    // What is refused is the breach that is told.
+    ensures refused { Refused (TellsPattern (tree expr.now)) result }
+    // It is refused, unless memory runs out; so no expression tells two breaches.
+    ensures breach { Breach (λ t. t) (TellsPattern (tree expr.now)) result }
+    // In a source that each span of the expression lies in lies what is refused, too.
+    ensures refused_inside { (n : ℕ) → Inside n (tree expr.now) → RefusedIn n result }
+{
+    check(alloc, known, expr)
 }
 
 /// The same, by one pass over the expression.
-fn check(alloc: Global, expr: &Expr) -> Result<(), Refusal>
+fn check(alloc: Global, known: &ReadPatterns, expr: &Expr) -> Result<(), Refusal>
     ensures { Answers result (patterns_checked (tree expr.now)) }
 {
-    match fold_up(alloc, &PatternCheck, expr)? {
+    match fold_up(alloc, &PatternCheck { known }, expr)? {
         None => Ok(()),
         Some(fault) => Err(Refusal::At {
             kind: fault.kind,
@@ -47,9 +64,12 @@ fn check(alloc: Global, expr: &Expr) -> Result<(), Refusal>
 }
 
 /// The breach of an expression that is told, from those of its parts.
-struct PatternCheck;
+#[derive(Drop)]
+struct PatternCheck<'a> {
+    known: &'a ReadPatterns,
+}
 
-impl Fold for PatternCheck {
+impl<'a> Fold for PatternCheck<'a> {
     type Value = Option<Fault>;
 
     type Note = ();
@@ -77,12 +97,17 @@ impl Fold for PatternCheck {
         requires { values.items ≡ map pattern_fault (parts_of (tree expr.now)) }
         ensures { IfOk result (λ found. found ≡ pattern_fault (tree expr.now)) }
     {
-        told(alloc, expr, values.as_slice())
+        told(alloc, self.known, expr, values.as_slice())
     }
 }
 
 /// The breach that is told, if there is one, from those of the parts.
-fn told(alloc: Global, expr: &Expr, parts: &[Option<Fault>]) -> Result<Option<Fault>, Memory>
+fn told(
+    alloc: Global,
+    known: &ReadPatterns,
+    expr: &Expr,
+    parts: &[Option<Fault>],
+) -> Result<Option<Fault>, Memory>
     requires { parts.now ≡ map pattern_fault (parts_of (tree expr.now)) }
     ensures { IfOk result (λ found. found ≡ pattern_fault (tree expr.now)) }
 {
@@ -94,13 +119,13 @@ fn told(alloc: Global, expr: &Expr, parts: &[Option<Fault>]) -> Result<Option<Fa
             matchers,
             span,
             ..
-        } => selector_fault(alloc, name, matchers.as_slice(), *span),
+        } => selector_fault(alloc, known, name, matchers.as_slice(), *span),
         Expr::Subquery { .. } => Ok(parts[0]),
         Expr::Paren { .. } => Ok(parts[0]),
         Expr::Unary { .. } => Ok(parts[0]),
         Expr::Binary { .. } => Ok(Fault::first(parts[0], parts[1])),
         Expr::Call { name, args, .. } => {
-            let own = call_fault(alloc, name.as_str(), args.as_slice())?;
+            let own = call_fault(alloc, known, name.as_str(), args.as_slice())?;
             Ok(first_of(own, parts))
         }
         Expr::Aggregate { .. } => Ok(first_of(None, parts)),

@@ -1,22 +1,24 @@
 //! What rules mention: labels, and texts with each.
 ghost use Rattle.std.specs.Prelude.{◌≡◌, ◌<◌, ◌∷◌, [], length, IfOk, OnOk};
 ghost use Rattle.lf_semantics.specs.Listing.{class_count, label_count, label_of};
-ghost use Rattle.lf_semantics.specs.Mentions.{mention};
+ghost use Rattle.lf_semantics.specs.Mentions.{mention, pattern_texts};
 ghost use Rattle.lf_classes.specs.views.Mentioned.{nothing_mentioned, with_label, with_mentioned, with_star, with_text_of};
 
+use crate::pattern_texts::PatternTexts;
 use crate::text_set::TextSet;
-use lf_base::{Memory, Text};
+use lf_base::{Memory, Seq, Text};
 use std::alloc::Global;
 use std::marker::Model;
 
 /// The label of the metric name.
 pub const METRIC: &str = "__name__";
 
-/// The labels that were mentioned so far, each once, and for each the texts that were mentioned with it.
+/// The labels that were mentioned so far, each once, and for each the texts that were mentioned with it. Beside them is kept what was read of patterns.
 #[derive(Drop)]
 pub struct Mentions {
     labels: TextSet,
     texts: Vec<TextSet>,
+    patterns: PatternTexts,
 }
 
 impl Model for Mentions {
@@ -38,7 +40,11 @@ impl Mentions {
         let mut labels = TextSet::new(alloc);
         let _ = labels.add(alloc, METRIC)?;
         let texts = vec![in alloc; TextSet::new(alloc)]?;
-        Ok(Mentions { labels, texts })
+        Ok(Mentions {
+            labels,
+            texts,
+            patterns: PatternTexts::new(alloc),
+        })
     }
 
     /// How many labels were mentioned.
@@ -65,7 +71,7 @@ impl Mentions {
         ensures labels { result.0 ≡ self.names }
         ensures texts { result.1.items ≡ self.named }
     {
-        let Mentions { labels, texts } = self;
+        let Mentions { labels, texts, .. } = self;
         (labels, texts)
     }
 
@@ -99,6 +105,14 @@ impl Mentions {
             self.add_text(alloc, place, text.as_str())?;
         }
         Ok(())
+    }
+
+    /// The texts of a pattern, which mentions nothing.
+    pub fn texts_of(&mut self, alloc: Global, pattern: &Text) -> Result<Seq<Text>, Memory>
+        ensures texts { IfOk result (λ texts. texts ≡ pattern_texts pattern.now) }
+        ensures same { self.new ≡ self.old }
+    {
+        self.patterns.of(alloc, pattern)
     }
 
     /// Puts a label behind the others, unless it is there, and says where it stands.

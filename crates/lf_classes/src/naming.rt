@@ -1,5 +1,5 @@
 //! What names, modifiers, matchers and a rule's own labels mention.
-ghost use Rattle.std.specs.Prelude.{◌≡◌, ◌∷◌, [], map, IfOk, OnOk};
+ghost use Rattle.std.specs.Prelude.{◌≡◌, ◌∷◌, [], map, OnOk};
 ghost use Rattle.lf_ast.specs.Types.{names_at};
 ghost use Rattle.lf_semantics.specs.Mentions.{matcher_texts, matchers_mentions, mention, modifier_mentions, name_mentions, names_mentions, pattern_texts};
 ghost use Rattle.lf_classes.specs.views.Mentioned.{mentioned_all, with_mentioned};
@@ -7,7 +7,6 @@ ghost use Rattle.lf_classes.specs.views.Mentioned.{mentioned_all, with_mentioned
 use crate::mentions::{METRIC, Mentions};
 use lf_ast::{MatchOp, Matcher, Matching, Name, RuleLabel};
 use lf_base::{Memory, Seq, Text};
-use lf_pattern::{PatternError, plain_alternatives, samples};
 use std::alloc::Global;
 
 impl Mentions {
@@ -87,7 +86,7 @@ impl Mentions {
     ) -> Result<(), Memory>
         ensures { OnOk result (self.new ≡ with_mentioned self.old (mention label.now (pattern_texts pattern.now))) }
     {
-        let texts = texts_of_pattern(alloc, pattern)?;
+        let texts = self.texts_of(alloc, pattern)?;
         self.mention_texts(alloc, label, texts.as_slice())
     }
 
@@ -99,19 +98,5 @@ impl Mentions {
             self.mention_text(alloc, label.key.as_str(), label.value.as_str())?;
         }
         Ok(())
-    }
-}
-
-/// The alternatives of a plain pattern, and of any other its samples. What is no pattern has none.
-fn texts_of_pattern(alloc: Global, pattern: &Text) -> Result<Seq<Text>, Memory>
-    ensures { IfOk result (λ texts. texts ≡ pattern_texts pattern.now) }
-{
-    if let Some(alternatives) = plain_alternatives(alloc, pattern)? {
-        return Ok(alternatives);
-    }
-    match samples(alloc, pattern) {
-        Ok(samples) => Ok(samples),
-        Err(PatternError::BadPattern) => Ok(Seq::new(alloc)),
-        Err(PatternError::Memory) => Err(Memory),
     }
 }

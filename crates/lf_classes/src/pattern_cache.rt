@@ -1,60 +1,19 @@
 //! Rows of the classes that pass patterns, each found once.
 ghost use Rattle.std.specs.Prelude.{◌≡◌, ℕ, ◌<◌, ◌^◌, length, IfSome, OnOk};
-ghost use Rattle.lf_ast.specs.Labels.{Bytes};
-ghost use Rattle.lf_semantics.specs.ClassRows.{Sets};
 ghost use Rattle.lf_semantics.specs.Listing.{Listing};
-ghost use Rattle.lf_classes.specs.views.PatternCache.{IsPatternCache, AreRows, HasRows, passing_row};
+ghost use Rattle.lf_classes.specs.views.PatternCache.{IsPatternCache, HasRows, passing_row};
 
 use crate::row::Row;
-use crate::text_set::TextSet;
+use crate::text_map::TextMap;
 use lf_ast::MatchOp;
 use lf_base::Memory;
 use std::alloc::Global;
 
-/// Patterns, each with its row, which stands at the same place. Where a pattern stands is looked up in a map.
-#[derive(Drop)]
-pub struct PatternRows {
-    patterns: TextSet,
-    rows: Vec<Row>,
-}
-
-impl PatternRows {
-    /// No pattern.
-    fn new(alloc: Global) -> PatternRows
-        ensures { (row_of : Bytes → Sets) → AreRows row_of result }
-    {
-        PatternRows {
-            patterns: TextSet::new(alloc),
-            rows: Vec::new(alloc),
-        }
-    }
-
-    /// The row of a pattern, if it is cached.
-    fn get(&self, pattern: &str) -> Option<&Row>
-        ensures { (row_of : Bytes → Sets) → AreRows row_of self.now → IfSome result (λ row. row.now ≡ row_of pattern.now) }
-    {
-        self.rows.get(self.patterns.place(pattern))
-    }
-
-    /// Caches the row of a pattern, unless it is cached already.
-    fn add(&mut self, alloc: Global, pattern: &str, row: Row) -> Result<(), Memory>
-        ensures { (row_of : Bytes → Sets) → AreRows row_of self.old → row ≡ row_of pattern.now → AreRows row_of self.new }
-    {
-        self.rows.reserve(1)?;
-        let count = self.patterns.len();
-        let place = self.patterns.add(alloc, pattern)?;
-        if place == count {
-            self.rows.push(row).unwrap();
-        }
-        Ok(())
-    }
-}
-
 /// The rows of the patterns that stand behind `=~` with one label, and of those behind `!~`.
 #[derive(Drop)]
 pub struct LabelRows {
-    matching: PatternRows,
-    failing: PatternRows,
+    matching: TextMap<Row>,
+    failing: TextMap<Row>,
 }
 
 impl LabelRows {
@@ -63,8 +22,8 @@ impl LabelRows {
         ensures { (u : Listing) (label : ℕ) → HasRows u label result }
     {
         LabelRows {
-            matching: PatternRows::new(alloc),
-            failing: PatternRows::new(alloc),
+            matching: TextMap::new(alloc),
+            failing: TextMap::new(alloc),
         }
     }
 

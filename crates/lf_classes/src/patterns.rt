@@ -11,45 +11,51 @@ ghost use Rattle.lf_ast.specs.Selectors.{metric};
 ghost use Rattle.lf_semantics.specs.PatternBreaches.{called_with, is_empty_name, names_twice, pattern_argument, placed_string};
 ghost use Rattle.lf_semantics.specs.reading.Selectors.{passes_empty};
 
-use crate::passes;
+use crate::{ReadPatterns, passes};
 use lf_ast::{Expr, Function, LabelEffect, MatchOp, Matcher};
 use lf_base::{Fault, Kind, Memory, Span, Text};
-use lf_pattern::{Pattern, PatternError};
 use std::alloc::Global;
 
 /// The breach of a pattern that can't be read.
-fn unread_fault(alloc: Global, pattern: &Text, span: Span) -> Result<Option<Fault>, Memory>
+fn unread_fault(
+    alloc: Global,
+    known: &ReadPatterns,
+    pattern: &Text,
+    span: Span,
+) -> Result<Option<Fault>, Memory>
     ensures { IfOk result (λ found. found ≡ unread_fault pattern.now span) }
 {
-    match Pattern::new(alloc, pattern) {
-        Ok(_) => Ok(None),
-        Err(PatternError::BadPattern) => Ok(Some(Fault {
-            kind: Kind::BadPattern,
-            span,
-        })),
-        Err(PatternError::Memory) => Err(Memory),
-    }
+    let read = known.is_read(alloc, pattern)?;
+    Ok(Fault::when(!read, Kind::BadPattern, span))
 }
 
 /// The breach of a matcher, whose value is a pattern behind `=~` and `!~`.
-fn matcher_fault(alloc: Global, matcher: &Matcher) -> Result<Option<Fault>, Memory>
+fn matcher_fault(
+    alloc: Global,
+    known: &ReadPatterns,
+    matcher: &Matcher,
+) -> Result<Option<Fault>, Memory>
     ensures { IfOk result (λ found. found ≡ matcher_fault matcher.now) }
 {
     match matcher.op {
         MatchOp::Equal | MatchOp::NotEqual => Ok(None),
         MatchOp::Matches | MatchOp::NotMatches => {
-            unread_fault(alloc, &matcher.value, matcher.value_span)
+            unread_fault(alloc, known, &matcher.value, matcher.value_span)
         }
     }
 }
 
 /// Of the breaches of matchers the one that is told.
-fn matchers_fault(alloc: Global, matchers: &[Matcher]) -> Result<Option<Fault>, Memory>
+fn matchers_fault(
+    alloc: Global,
+    known: &ReadPatterns,
+    matchers: &[Matcher],
+) -> Result<Option<Fault>, Memory>
     ensures { IfOk result (λ found. found ≡ matchers_fault None matchers.now) }
 {
     let mut fault = None;
     for matcher in matchers {
-        let found = matcher_fault(alloc, matcher)?;
+        let found = matcher_fault(alloc, known, matcher)?;
         fault = Fault::first(fault, found);
     }
     Ok(fault)
@@ -116,34 +122,35 @@ fn is_bad_selector(alloc: Global, name: &Option<Text>, matchers: &[Matcher]) -> 
 #[inline(never)]
 pub fn selector_fault(
     alloc: Global,
+    known: &ReadPatterns,
     name: &Option<Text>,
     matchers: &[Matcher],
     span: Span,
 ) -> Result<Option<Fault>, Memory>
     ensures { IfOk result (λ found. found ≡ selector_fault name.now matchers.now span) }
 {
-    let unread = matchers_fault(alloc, matchers)?;
+    let unread = matchers_fault(alloc, known, matchers)?;
     let bad = is_bad_selector(alloc, name, matchers)?;
     Ok(Fault::first(unread, Fault::when(bad, Kind::BadSelector, span)))
 }
 
 /// The breach of a string that is a pattern, which may stand in parentheses.
-fn string_fault(alloc: Global, expr: &Expr) -> Result<Option<Fault>, Memory>
+fn string_fault(alloc: Global, known: &ReadPatterns, expr: &Expr) -> Result<Option<Fault>, Memory>
     ensures { IfOk result (λ found. found ≡ string_fault (placed_string (tree expr.now))) }
 {
     match expr {
-        Expr::Str { text, span } => unread_fault(alloc, text, *span),
-        Expr::Paren { of, .. } => string_fault(alloc, of),
+        Expr::Str { text, span } => unread_fault(alloc, known, text, *span),
+        Expr::Paren { of, .. } => string_fault(alloc, known, of),
         _ => Ok(None),
     }
 }
 
 /// The breach of the fifth argument, if that is a string.
-fn fifth_fault(alloc: Global, args: &[Expr]) -> Result<Option<Fault>, Memory>
+fn fifth_fault(alloc: Global, known: &ReadPatterns, args: &[Expr]) -> Result<Option<Fault>, Memory>
     ensures { IfOk result (λ found. found ≡ string_fault (option_and_then placed_string (argument_at (trees args.now) 4))) }
 {
     match args.get(4) {
-        Some(pattern) => string_fault(alloc, pattern),
+        Some(pattern) => string_fault(alloc, known, pattern),
         None => Ok(None),
     }
 }
@@ -151,24 +158,30 @@ fn fifth_fault(alloc: Global, args: &[Expr]) -> Result<Option<Fault>, Memory>
 /// The breach of the pattern among arguments; only `label_replace` takes one, and it is the fifth.
 fn argument_fault(
     alloc: Global,
+    known: &ReadPatterns,
     labels: LabelEffect,
     args: &[Expr],
 ) -> Result<Option<Fault>, Memory>
     ensures { IfOk result (λ found. found ≡ string_fault (pattern_argument labels (trees args.now))) }
 {
     match labels {
-        LabelEffect::LabelReplace => fifth_fault(alloc, args),
+        LabelEffect::LabelReplace => fifth_fault(alloc, known, args),
         _ => Ok(None),
     }
 }
 
 /// The breach of the pattern that a call takes.
 #[inline(never)]
-pub fn call_fault(alloc: Global, name: &str, args: &[Expr]) -> Result<Option<Fault>, Memory>
+pub fn call_fault(
+    alloc: Global,
+    known: &ReadPatterns,
+    name: &str,
+    args: &[Expr],
+) -> Result<Option<Fault>, Memory>
     ensures { IfOk result (λ found. found ≡ string_fault (called_with (function_named name.now) (trees args.now))) }
 {
     match Function::named(name) {
-        Some(function) => argument_fault(alloc, function.labels, args),
+        Some(function) => argument_fault(alloc, known, function.labels, args),
         None => Ok(None),
     }
 }

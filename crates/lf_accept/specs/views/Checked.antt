@@ -9,15 +9,9 @@ use Rattle.lf_ast.specs.declared.expr.ExprType.{ExprType}
 use Rattle.lf_lex.specs.declared.token.Token.{Token}
 use Rattle.lf_parse.specs.Answer.{IsExpression, Refuses}
 use Rattle.lf_rules.specs.Sources.{Source}
-use Rattle.lf_semantics.specs.PatternBreaches.{BreaksPatterns, TellsPattern}
-use Rattle.lf_accept.specs.Accepted.{BreaksExpr, HasExpr, IsFirst}
+use Rattle.lf_semantics.specs.PatternBreaches.{TellsPattern}
+use Rattle.lf_accept.specs.Accepted.{BreaksExpr, HasExpr, IsFirst, IsJudged}
 use Rattle.lf_accept.specs.Allowance.{count_in}
-
--- the expression has a type, and breaks nothing by its patterns and its selectors
-pub record IsJudged (e : Tree) : Type 0 where
-  pub type : ExprType
-  pub has_type : HasType e type
-  pub unbroken : (f : Fault) → BreaksPatterns e f → ⊥
 
 -- it has no type, or it has one, and breaks something by its patterns and its selectors
 abbrev pub BreaksJudged : Tree → Fault → Type 0

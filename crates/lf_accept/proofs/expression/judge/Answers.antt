@@ -9,7 +9,7 @@ use Rattle.lf_accept.proofs.Takings.{no_type_taken, patterns_taken}
 use Rattle.lf_accept.proofs.expression.judge.Goals as goal
 
 pub returns-clause-refused : goal.returns-clause-refused
-returns-clause-refused c = judged_at (tree c.args.expr.now) c.in_ok-type_of.field-0 c.in_ok-type_of.ensures.found c.check_patterns.result c.check_patterns.ensures.refused
+returns-clause-refused c = judged_at (tree c.args.expr.now) c.in_ok-type_of.field-0 c.in_ok-type_of.ensures.found c.check_patterns_by.result c.check_patterns_by.ensures.refused
 
 pub returns-in_err-type_of-clause-spent : goal.returns-in_err-type_of-clause-spent
 returns-in_err-type_of-clause-spent c =
@@ -20,4 +20,4 @@ pub returns-clause-spent : goal.returns-clause-spent
 returns-clause-spent c =
     let e = tree c.args.expr.now in
     let same : sum_by count_of (texts_at c.as_slice-2.result.now) ≡ count_in e = ap (λ texts. sum_by count_of (texts_at texts)) c.as_slice-2.ensures.value ∙ ap (sum_by count_of) c.in_ok-patterns.ensures in
-    patterns_taken e c.in_ok-type_of.field-0 c.in_ok-type_of.ensures.found c.args.allowance.now.left c.take_each.new.self.left (omega (arith, same, c.in_ok-take_each.ensures)) c.check_patterns.result c.check_patterns.ensures.refused
+    patterns_taken e c.in_ok-type_of.field-0 c.in_ok-type_of.ensures.found c.args.allowance.now.left c.take_each.new.self.left (omega (arith, same, c.in_ok-take_each.ensures)) c.check_patterns_by.result c.check_patterns_by.ensures.refused

@@ -1,7 +1,7 @@
 use Rattle.std.proofs.Common.{◌<◌, length, refl}
 use Rattle.std.proofs.lemmas.Option.{slice_get_read}
 use Rattle.lf_classes.specs.views.PatternCache.{HasRows}
-use Rattle.lf_classes.proofs.PatternPlaces.{each_set}
+use Rattle.lf_classes.proofs.EachElement.{each_set}
 use Rattle.lf_classes.proofs.pattern_cache.PatternCache.add.Goals as goal
 
 pub returns : goal.returns

@@ -1,7 +1,7 @@
 use Rattle.std.proofs.Common.{◌∙◌, ap, sym}
 use Rattle.std.specs.Prelude.{slice_get}
 use Rattle.lf_classes.specs.views.PatternCache.{HasRows}
-use Rattle.lf_classes.proofs.PatternPlaces.{each_push}
+use Rattle.lf_classes.proofs.EachElement.{each_push}
 use Rattle.lf_classes.proofs.pattern_cache.PatternCache.make_room.Goals as goal
 
 pub loop-alloc-preserved : goal.loop-alloc-preserved

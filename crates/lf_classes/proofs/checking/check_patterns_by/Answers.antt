@@ -5,7 +5,7 @@ use Rattle.lf_semantics.proofs.PatternsInside.{pattern_within}
 use Rattle.lf_classes.specs.Checked.{HasNoBreach}
 use Rattle.lf_classes.specs.reading.Checking.{patterns_checked}
 use Rattle.lf_classes.proofs.FaultsFound.{decides}
-use Rattle.lf_classes.proofs.checking.check_patterns.Goals as goal
+use Rattle.lf_classes.proofs.checking.check_patterns_by.Goals as goal
 
 pub returns : goal.returns
 returns c =
