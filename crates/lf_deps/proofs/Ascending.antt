@@ -1,7 +1,8 @@
 -- Numbers in ascending order, and what is left of them without one.
-use Rattle.std.proofs.Common.{◌≡◌, ◌≢◌, ℕ, zero, suc, ◌+◌, ◌<◌, ◌≤◌, Bool, true, false, not, cond, eqb, List, [], ◌∷◌, ◌++◌, length, inl, inr, refl, ◌∙◌, ap, arith}
+use Rattle.std.proofs.Common.{◌≡◌, ◌≢◌, ℕ, zero, suc, ◌+◌, ◌<◌, ◌≤◌, Bool, true, false, not, cond, eqb, List, [], ◌∷◌, ◌++◌, Some, length, slice_get, inl, inr, refl, ◌∙◌, ap, arith}
 use Rattle.std.proofs.lemmas.Bool.{both_ways, cases_eq, eq-eqb, not-true}
 use Rattle.std.proofs.lemmas.List.FromFn.{get_or-range_with_len, length-range_with_len}
+use Rattle.std.proofs.lemmas.Option.{slice_get_within}
 use Rattle.std.specs.List.{Contains, filter, range_with_len}
 use Rattle.lf_laws.proofs.Members.{first_or_behind, none_in}
 use Rattle.lf_semantics.proofs.Members.{in_filter, of_filter}
@@ -65,6 +66,10 @@ pub in_range : (n j : ℕ) → j < n → Contains (range_with_len 0 n) j
 in_range n j h =
     let l = length-range_with_len 0 n in
     (j, omega (arith, h, l), get_or-range_with_len 0 n j j h ∙ (let e : 0 + j ≡ j = omega arith in e))
+
+-- so is the number of what stands in a list
+pub number_in : {X : Type 0} (xs : List X) (k : ℕ) (x : X) → slice_get xs k ≡ Some x → Contains (range_with_len 0 (length xs)) k
+number_in xs k x at = in_range (length xs) k (slice_get_within xs k x at)
 
 pub of_range : (n j : ℕ) → Contains (range_with_len 0 n) j → j < n
 of_range n j c =

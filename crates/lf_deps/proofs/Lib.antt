@@ -8,6 +8,7 @@ pub mod Numbered
 pub mod OrderLaws
 pub mod Ordered
 pub mod Outcomes
+pub mod Placed
 mod Reached
 pub mod RuleTrees
 mod Settling

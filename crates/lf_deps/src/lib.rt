@@ -3,7 +3,7 @@
 
 mod links;
 mod name_graph;
-mod number_set;
+mod number_queue;
 mod numbers;
 mod ordering;
 mod queue;

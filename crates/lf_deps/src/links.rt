@@ -81,7 +81,7 @@ pub(crate) fn push_sources(
 }
 
 /// Puts the source that a selector waits for behind others, if there is one.
-fn push_source(
+pub(crate) fn push_source(
     names: &TextSet,
     selector: &Option<Text>,
     sources: &mut Seq<usize>,

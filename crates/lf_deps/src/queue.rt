@@ -4,7 +4,7 @@ ghost use Rattle.std.specs.List.{Contains, range_with_len};
 ghost use Rattle.lf_deps.specs.views.Queue.{Chooses, CountsDown, IsLeft, IsQueue, IsReady, IsStart, IsWhole, Settles, TakesNext, occurs, occurs_in};
 
 use crate::links::Links;
-use crate::number_set::NumberSet;
+use crate::number_queue::NumberQueue;
 use lf_base::{Memory, Seq};
 use lf_graph::{Buckets, one_more};
 use std::alloc::Global;
@@ -22,7 +22,7 @@ pub(crate) struct Queue {
     /// The rules to be looked at.
     due: Seq<usize>,
     /// The rules left that don't wait.
-    free: NumberSet,
+    free: NumberQueue,
     /// Whether each rule is taken.
     taken: Vec<bool>,
     /// No rule before it is left.
@@ -41,7 +41,7 @@ impl Queue {
             listed: Buckets::empty(alloc, links.sources)?,
             seen: vec![in alloc; 0; rules]?,
             due: numbers(alloc, rules)?,
-            free: NumberSet::new(alloc),
+            free: NumberQueue::new(alloc),
             taken: vec![in alloc; false; rules]?,
             least: 0,
         };

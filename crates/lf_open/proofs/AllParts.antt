@@ -6,7 +6,7 @@ use Rattle.lf_ast.specs.Labels.{Bytes}
 use Rattle.lf_ast.specs.Rules.{RuleTree}
 use Rattle.lf_ast.specs.Tree.{Tree, Number, Str, Selector, Subquery, Paren, Unary, Binary, Call, Aggregate}
 use Rattle.lf_deps.specs.Reading.{Reads, selectors}
-use Rattle.lf_deps.specs.views.Names.{IsPlaced}
+use Rattle.lf_deps.specs.views.Names.{AreNumbersBy, IsPlaced}
 use Rattle.lf_forks.specs.views.ForkTests.{TellsSelectors}
 use Rattle.lf_forks.specs.views.Holding.{test_of}
 use Rattle.lf_open.specs.Holding.{has_own_source, names_le}
@@ -14,7 +14,7 @@ use Rattle.lf_semantics.specs.Standing.{standing}
 use Rattle.lf_open.specs.declared.open_at.OpenAt.{OpenAt}
 use Rattle.lf_open.specs.views.Known.{IsOfRule}
 use Rattle.lf_open.specs.views.Marks.{TellsReading}
-use Rattle.lf_open.specs.views.ReadNames.{AreNumbersBy, IsReadGraph, IsTableOf, ReadGraph}
+use Rattle.lf_open.specs.views.ReadNames.{IsReadGraph, IsTableOf, ReadGraph}
 use Rattle.lf_open.specs.views.Told.{Facts, numbers_by, told}
 use Rattle.lf_open.proofs.ByParts.{AreCommon, IsByParts, by_parts}
 use Rattle.lf_open.proofs.OwnOpens.{common_is, reads_placed, stands_within}

@@ -13,8 +13,6 @@ pub mod NumberSets
 pub mod OneList
 pub mod Ordered
 pub mod OwnOpens
-pub mod ReadEdges
-pub mod ReadPaths
 pub mod ReadTables
 pub mod Settled
 pub mod StandingParts

@@ -10,7 +10,7 @@ use Rattle.lf_ast.specs.Selectors.{selected_name}
 use Rattle.lf_ast.specs.Tree.{Tree, Trees, Number, Str, Selector, Subquery, Paren, Unary, Binary, Call, Aggregate, Nil, Next, list, parts_of}
 use Rattle.lf_deps.specs.Reading.{Reads, SelectsBy, own_selectors, selectors}
 use Rattle.lf_deps.specs.Reading.Reads.{selected, through}
-use Rattle.lf_deps.specs.views.Names.{IsPlaced}
+use Rattle.lf_deps.specs.views.Names.{AreNumbersBy, IsPlaced}
 use Rattle.lf_forks.proofs.ForkTests.{tells_forks}
 use Rattle.lf_forks.specs.views.ForkTests.{TellsSelectors}
 use Rattle.lf_forks.specs.views.Holding.{test_of}
@@ -22,7 +22,7 @@ use Rattle.lf_open.specs.Constructs.{AreVectors, ReadInCommon}
 use Rattle.lf_open.specs.Holding.{CannotBeSilent, NamesLe, has_own_source, is_source, matches_le, names_le}
 use Rattle.lf_semantics.specs.Standing.{standing}
 use Rattle.lf_open.specs.views.Marks.{TellsReading}
-use Rattle.lf_open.specs.views.ReadNames.{AreNumbersBy, HaveNames}
+use Rattle.lf_open.specs.views.ReadNames.{HaveNames}
 use Rattle.lf_open.specs.views.Told.{Facts, are_vectors, has_any, numbers_by, own_numbers, shares, told}
 use Rattle.lf_open.proofs.Held.{by_selector, holds_by, reads_by, selectors_stand}
 use Rattle.lf_open.proofs.StandingParts.{of_other, of_scalar}

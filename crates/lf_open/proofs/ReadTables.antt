@@ -1,9 +1,9 @@
 -- Names with places, and tables of what they read.
-use Rattle.std.proofs.Common.{◌≡◌, ◌<◌, ◌+◌, ◌↔◌, inl, inr, ℕ, Bool, true, false, cond, nat_lt, List, [], ◌∷◌, ◌++◌, length, get_or, Option, Some, None, sym, ◌∙◌, ap, subst, arith}
+use Rattle.std.proofs.Common.{◌≡◌, ◌<◌, ◌+◌, inl, inr, ℕ, Bool, true, false, cond, nat_lt, List, [], ◌∷◌, ◌++◌, length, get_or, Option, Some, None, sym, ◌∙◌, ap, subst, arith}
 use Rattle.std.specs.Prelude.{slice_get}
-use Rattle.std.specs.List.{Contains, filter, flat_map}
+use Rattle.std.specs.List.{Contains, flat_map}
 use Rattle.std.proofs.Math.Seq.{get_or-append_seam}
-use Rattle.std.proofs.lemmas.Bool.{cases_lt, lt-ltb, ltb-true}
+use Rattle.std.proofs.lemmas.Bool.{cases_lt}
 use Rattle.std.proofs.lemmas.Bool.Decides.{nat_tests}
 use Rattle.std.proofs.lemmas.List.{get_or_append_left, length-append}
 use Rattle.std.proofs.lemmas.List.Elements.{Contains-get_or}
@@ -14,6 +14,7 @@ use Rattle.lf_ast.specs.Labels.{Bytes}
 use Rattle.lf_ast.specs.Rules.{RuleTree}
 use Rattle.lf_classes.specs.views.TextSets.{with_text}
 use Rattle.lf_deps.specs.Reading.{selectors}
+use Rattle.lf_deps.specs.views.Names.{AreNumbersBy}
 use Rattle.lf_deps.specs.views.Search.{Grows}
 use Rattle.lf_deps.specs.views.Sources.{IsSourcesOf, Sources}
 use Rattle.lf_deps.proofs.LookedUp.{selected_count, selected_is}
@@ -21,10 +22,9 @@ use Rattle.lf_deps.proofs.Followed.{grows_none, grows_text, kept_in}
 use Rattle.lf_semantics.specs.Environments.{names_recorded, recorded_names}
 use Rattle.lf_semantics.specs.Listing.{place}
 use Rattle.lf_semantics.proofs.ListingLaws.{in_first_seen, place_within}
-use Rattle.lf_semantics.proofs.Members.{in_filter, of_filter}
 use Rattle.lf_semantics.proofs.Places.{at_place}
 use Rattle.lf_open.specs.declared.read_table.ReadTable.{ReadTable}
-use Rattle.lf_open.specs.views.ReadNames.{AreNumbersBy, AreRead, HaveNames, IsTableOf, said_name, said_names, with_said}
+use Rattle.lf_open.specs.views.ReadNames.{AreRead, HaveNames, IsTableOf, said_name, said_names, with_said}
 
 -- the names that were recorded and those that are selected have places
 pub have_names : (rules : List RuleTree) (s : Sources) → IsSourcesOf rules s → (old new : List Bytes) → old ≡ recorded_names rules → Grows (flat_map said_names s.selected) old new → HaveNames rules new
@@ -88,10 +88,3 @@ pub table_of : (rules : List RuleTree) (gnames : List Bytes) (found : List (Opti
 table_of rules gnames found t are grows n c =
     let at : place t.names n < length t.names = place_within t.names n (grows.3 n (in_flat_map said_name found (Some n) n c (here n []))) in
     subst (λ (m : Bytes). AreNumbersBy rules gnames (Some m) (get_or t.reads (place t.names n) [])) (at_place t.names n at) (are (place t.names n) at)
-
--- of the numbers that have a property those below one
-pub below_is : (count : ℕ) (all found : List ℕ) → found ≡ filter (λ k. nat_lt k count) all → (P : ℕ → Type 0) → ((k : ℕ) → Contains all k ↔ P k) → (k : ℕ) → Contains found k ↔ ((k < count) × P k)
-below_is count all found is P are k = (
-  λ c. let w = of_filter (λ (n : ℕ). nat_lt n count) all k (subst (λ (l : List ℕ). Contains l k) is c) in (ltb-true k count w.1, (are k).0 w.0),
-  λ h. subst (λ (l : List ℕ). Contains l k) (sym is) (in_filter (λ (n : ℕ). nat_lt n count) all k ((are k).1 h.1) (lt-ltb k count h.0)),
-)

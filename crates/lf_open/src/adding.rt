@@ -57,13 +57,3 @@ pub(crate) fn push_all(found: &mut Seq<OpenAt>, more: &[OpenAt]) -> Result<(), M
     }
     Ok(())
 }
-
-/// Puts open constructs behind those of a vector.
-pub(crate) fn append_all(found: &mut Vec<OpenAt>, more: &[OpenAt]) -> Result<(), Memory>
-    ensures { OnOk result (found.new.items ≡ found.old.items ++ more.now) }
-{
-    for item in more {
-        found.push(*item)?;
-    }
-    Ok(())
-}

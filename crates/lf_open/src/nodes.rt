@@ -6,7 +6,7 @@ ghost use Rattle.lf_deps.specs.Reading.{selectors};
 ghost use Rattle.lf_open.specs.views.Adding.{Adds, AreFound, IsByForm, IsByItself, IsByNames, IsOpenByItself};
 ghost use Rattle.lf_open.specs.views.Known.{IsKnown, IsOfRule, rules_of};
 
-use crate::adding::{add_if, append_all};
+use crate::adding::add_if;
 use crate::calls::is_open_absent;
 use crate::construct::Construct;
 use crate::forms::{add_patterns, makes_label, says_no_name};
@@ -36,7 +36,7 @@ pub(crate) fn open_in(
     let table = ReadTable::of(alloc, known.reading, selected)?;
     let told = tell(alloc, known, &table, rule, expr)?;
     let mut found = open_by_itself(known, alloc, rule, expr)?;
-    append_all(&mut found, told.found.as_slice())?;
+    found.extend_from_slice(told.found.as_slice())?;
     Ok(found)
 }
 

@@ -1,11 +1,7 @@
 //! What the selectors of an expression read.
-ghost use Rattle.std.specs.Prelude.{◌≡◌, [], List, Some, length, slice_index_or, IfOk, OnOk};
-ghost use Rattle.std.specs.List.{Contains};
-ghost use Rattle.lf_ast.specs.Labels.{Bytes};
+ghost use Rattle.std.specs.Prelude.{◌≡◌, [], List, length, slice_index_or, IfOk, OnOk};
 ghost use Rattle.lf_ast.specs.Rules.{RuleTree};
-ghost use Rattle.lf_classes.specs.views.TextSets.{with_text};
 ghost use Rattle.lf_semantics.specs.Listing.{place};
-ghost use Rattle.lf_deps.specs.views.Names.{IsPlaced};
 ghost use Rattle.lf_open.specs.views.ReadNames.{AreRead, IsReadGraph, IsTableOf, with_said};
 
 use crate::read_graph::ReadGraph;
@@ -27,8 +23,7 @@ impl ReadTable {
         graph: &ReadGraph,
         selectors: &[Option<Text>],
     ) -> Result<ReadTable, Memory>
-        requires graph { (rules : List RuleTree) × IsReadGraph rules graph.now }
-        requires placed { (n : Bytes) → Contains selectors.now (Some n) → IsPlaced graph.now.names n }
+        requires { (rules : List RuleTree) × IsReadGraph rules graph.now }
         ensures { IfOk result (λ table. (rules : List RuleTree) → IsReadGraph rules graph.now → IsTableOf rules graph.now.names selectors.now table) }
     {
         let mut table = ReadTable {
@@ -61,30 +56,17 @@ impl ReadTable {
         selector: &Option<Text>,
     ) -> Result<(), Memory>
         requires graph { (rules : List RuleTree) × IsReadGraph rules graph.now }
-        requires placed { (n : Bytes) → selector.now ≡ Some n → IsPlaced graph.now.names n }
         requires count { length self.old.reads ≡ length self.old.names }
         ensures count { OnOk result (length self.new.reads ≡ length self.new.names) }
         ensures names { OnOk result (self.new.names ≡ with_said self.old.names selector.now) }
         ensures read { OnOk result ((rules : List RuleTree) → IsReadGraph rules graph.now → AreRead rules graph.now.names self.old → AreRead rules graph.now.names self.new) }
     {
-        match selector {
-            Some(name) => self.add_name(alloc, graph, name.as_str()),
-            None => Ok(()),
-        }
-    }
-
-    /// Adds a name, unless it is there.
-    fn add_name(&mut self, alloc: Global, graph: &ReadGraph, name: &str) -> Result<(), Memory>
-        requires graph { (rules : List RuleTree) × IsReadGraph rules graph.now }
-        requires placed { IsPlaced graph.now.names name.now }
-        requires count { length self.old.reads ≡ length self.old.names }
-        ensures count { OnOk result (length self.new.reads ≡ length self.new.names) }
-        ensures names { OnOk result (self.new.names ≡ with_text self.old.names name.now) }
-        ensures read { OnOk result ((rules : List RuleTree) → IsReadGraph rules graph.now → AreRead rules graph.now.names self.old → AreRead rules graph.now.names self.new) }
-    {
-        let place = self.names.add(alloc, name)?;
+        let Some(name) = selector else {
+            return Ok(());
+        };
+        let place = self.names.add(alloc, name.as_str())?;
         if place == self.reads.len() {
-            let read = graph.numbers_by(alloc, name)?;
+            let read = graph.numbers_by(alloc, selector)?;
             self.reads.push(read)
         } else {
             Ok(())

@@ -1,16 +1,9 @@
-use Rattle.std.proofs.Common.{[], Option, sym, subst}
-use Rattle.std.specs.List.{Contains}
-use Rattle.lf_ast.specs.Labels.{Bytes}
+use Rattle.std.proofs.Common.{[], sym, subst}
 use Rattle.lf_deps.specs.views.Search.{Grows}
 use Rattle.lf_deps.proofs.Followed.{grows_more, grows_whole}
 use Rattle.lf_open.specs.views.ReadNames.{said_name}
 use Rattle.lf_open.proofs.ReadTables.{grows_said, table_of}
 use Rattle.lf_open.proofs.read_table.ReadTable.of.Goals as goal
-
-pub add-requires-clause-placed : goal.add-requires-clause-placed
-add-requires-clause-placed c = λ n e.
-    let P : Option Bytes → Type 0 = λ z. Contains c.args.selectors.now z in
-    c.requires.placed n (subst P e (c.loop-selector.selector-index, c.loop-selector-test.true, sym c.selector-item.is))
 
 pub loop-selector-preserved : goal.loop-selector-preserved
 loop-selector-preserved c = (

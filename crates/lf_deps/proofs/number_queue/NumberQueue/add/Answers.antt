@@ -1,7 +1,7 @@
 use Rattle.std.proofs.Common.{ℕ, List, inl, inr, refl, subst, sym}
 use Rattle.std.specs.List.{Contains}
 use Rattle.lf_graph.proofs.Inserting.{comes_in, put_in, stays_in}
-use Rattle.lf_deps.proofs.number_set.NumberSet.add.Goals as goal
+use Rattle.lf_deps.proofs.number_queue.NumberQueue.add.Goals as goal
 
 pub returns-clause-kept : goal.returns-clause-kept
 returns-clause-kept c j old =

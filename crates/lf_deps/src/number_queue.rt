@@ -9,11 +9,11 @@ use std::marker::Model;
 
 /// Numbers, each once. The least is found in the logarithm of how many there are.
 #[derive(Drop)]
-pub(crate) struct NumberSet {
+pub(crate) struct NumberQueue {
     numbers: BTreeSet<usize>,
 }
 
-impl Model for NumberSet {
+impl Model for NumberQueue {
     ghost use Rattle.std.specs.Prelude.{List, ℕ};
 
     ghost Value = { List ℕ };
@@ -21,12 +21,12 @@ impl Model for NumberSet {
     ghost view = { λ s. s.numbers.keys };
 }
 
-impl NumberSet {
+impl NumberQueue {
     /// No number.
-    pub(crate) fn new(alloc: Global) -> NumberSet
+    pub(crate) fn new(alloc: Global) -> NumberQueue
         ensures { result ≡ [] }
     {
-        NumberSet {
+        NumberQueue {
             numbers: BTreeSet::new(alloc),
         }
     }
