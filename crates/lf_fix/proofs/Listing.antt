@@ -1,8 +1,7 @@
 -- What an index lists.
-use Rattle.std.proofs.Common.{◌≡◌, ◌≢◌, ℕ, zero, suc, ◌+◌, ◌<◌, ◌≤◌, Bool, true, false, not, cond, nat_lt, List, [], ◌∷◌, ◌++◌, length, get_or, ◌⊎◌, inl, inr, refl, sym, ◌∙◌, ap, subst, arith, length-append}
+use Rattle.std.proofs.Common.{◌≡◌, ◌≢◌, ℕ, zero, suc, ◌+◌, ◌<◌, ◌≤◌, true, false, cond, nat_lt, List, [], ◌∷◌, ◌++◌, length, get_or, ◌⊎◌, inl, inr, refl, sym, ◌∙◌, ap, subst, arith, length-append}
 use Rattle.std.specs.Prelude.{slice_set}
 use Rattle.std.specs.List.{AllByRecursion, Contains}
-use Rattle.std.specs.Str.{bytes_eq}
 use Rattle.std.proofs.lemmas.Bool.{cases_lt, cases_eq}
 use Rattle.std.proofs.lemmas.Bool.Decides.{nat_tests}
 use Rattle.std.proofs.lemmas.List.{get_or-set_other, get_or-set_same, get_or_append_left, get_or_past, length-set}
@@ -12,6 +11,7 @@ use Rattle.lf_classes.specs.views.TextSets.{with_text}
 use Rattle.lf_semantics.specs.Listing.{place}
 use Rattle.lf_laws.proofs.Members.{here, none_in, only_one}
 use Rattle.lf_semantics.proofs.Places.{place_last, place_le, same_text}
+use Rattle.lf_deps.proofs.Placed.{place_behind, place_front}
 
 -- lists
 
@@ -19,30 +19,12 @@ pub all_map : {X : Type 0} (P Q : X → Type 0) (xs : List X) → ((x : X) → P
 all_map P Q [] h all = tt
 all_map P Q (x ∷ xs) h all = (h x all.0, all_map P Q xs h all.1)
 
--- places of names
-
-place_front : (xs ys : List Bytes) (n : Bytes) → place xs n < length xs → place (xs ++ ys) n ≡ place xs n
-place_front [] ys n h = absurd (omega arith)
-place_front (x ∷ xs) ys n h = by (bytes_eq x n) h (place_front xs ys n)
-  where
-    by : (b : Bool) → cond (not b) (1 + place xs n) 0 < suc (length xs) → (place xs n < length xs → place (xs ++ ys) n ≡ place xs n) → cond (not b) (1 + place (xs ++ ys) n) 0 ≡ cond (not b) (1 + place xs n) 0
-    by true h rest = refl
-    by false h rest = ap (λ k. 1 + k) (rest (omega (arith, h)))
-
 -- an empty list behind others has no member
 end_none : (xs : List (List ℕ)) (k : ℕ) → length xs ≤ k → get_or (xs ++ [] ∷ []) k [] ≡ []
 end_none [] zero h = refl
 end_none [] (suc k) h = refl
 end_none (x ∷ xs) zero h = absurd (omega arith)
 end_none (x ∷ xs) (suc k) h = end_none xs k (omega arith)
-
-place_behind : (xs ys : List Bytes) (n : Bytes) → length xs ≤ place xs n → length xs ≤ place (xs ++ ys) n
-place_behind [] ys n h = omega arith
-place_behind (x ∷ xs) ys n h = by (bytes_eq x n) h (place_behind xs ys n)
-  where
-    by : (b : Bool) → suc (length xs) ≤ cond (not b) (1 + place xs n) 0 → (length xs ≤ place xs n → length xs ≤ place (xs ++ ys) n) → suc (length xs) ≤ cond (not b) (1 + place (xs ++ ys) n) 0
-    by true h rest = absurd (omega (arith, h))
-    by false h rest = let e = rest (omega (arith, h)) in omega (arith, e)
 
 -- A number is put behind those of a name.
 module _ (names : List Bytes) (lists : List (List ℕ)) (full : length lists ≡ length names) (name : Bytes) (number : ℕ) where

@@ -6,7 +6,7 @@ use Rattle.lf_ast.specs.Labels.{Bytes}
 use Rattle.lf_ast.specs.Rules.{RuleTree}
 use Rattle.lf_flow.specs.Raising.{joined}
 use Rattle.lf_semantics.specs.ClassRows.{Sets, join}
-use Rattle.lf_semantics.specs.Environments.{IsEnvironmentOf, IsRow, Leq, recorded_row}
+use Rattle.lf_semantics.specs.Environments.{HoldsRule, IsEnvironmentOf, IsRow, Leq, recorded_row}
 use Rattle.lf_semantics.specs.Listing.{IsListing, Listing}
 use Rattle.lf_semantics.specs.RowTable.{Environment, row_named}
 use Rattle.lf_laws.proofs.Members.{other_false, same_true}
@@ -16,7 +16,6 @@ use Rattle.lf_semantics.proofs.LeqLaws.{leq_refl, leq_trans, leq_join_left, leq_
 use Rattle.lf_deps.specs.Reading.{selectors}
 use Rattle.lf_flow.proofs.SameRows.{SameAt, recorded_same}
 use Rattle.lf_fix.specs.views.Dependents.{SelectsRow}
-use Rattle.lf_fix.specs.views.Rounds.{HoldsRule}
 use Rattle.lf_fix.proofs.Raising.{named_joined, others_joined}
 use Rattle.lf_fix.proofs.Rounds.{one_named}
 

@@ -9,14 +9,14 @@ use Rattle.lf_laws.proofs.Slices.{one_at}
 use Rattle.lf_ast.specs.Labels.{Bytes}
 use Rattle.lf_ast.specs.Rules.{RuleTree}
 use Rattle.lf_flow.specs.Raising.{joined}
-use Rattle.lf_semantics.specs.Environments.{IsEnvironmentOf, recorded_row}
+use Rattle.lf_semantics.specs.Environments.{HoldsRule, IsEnvironmentOf, recorded_row}
 use Rattle.lf_semantics.specs.Listing.{IsListing, Listing}
 use Rattle.lf_semantics.specs.RowTable.{Environment}
 use Rattle.lf_semantics.proofs.Members.{one_of}
 use Rattle.lf_semantics.proofs.NormalizedRows.{recorded_row_is}
 use Rattle.lf_deps.specs.Reading.{selectors}
 use Rattle.lf_fix.specs.views.Dependents.{Index, IsIndexOf, IsListed, SelectsRow}
-use Rattle.lf_fix.specs.views.Rounds.{HoldsRule, OthersHold, StepTells, TellsOf}
+use Rattle.lf_fix.specs.views.Rounds.{OthersHold, StepTells, TellsOf}
 use Rattle.lf_fix.proofs.Rounds.{has_row}
 use Rattle.lf_fix.proofs.SameRows.{holds_own, holds_without}
 

@@ -4,6 +4,7 @@ pub mod ClassSets
 pub mod Counted
 pub mod Entries
 pub mod HasClass
+pub mod Joins
 pub mod KeptRows
 pub mod Layered
 pub mod ListedSets

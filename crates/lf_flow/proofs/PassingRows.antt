@@ -1,30 +1,20 @@
 -- Rows of the classes that pass patterns, as they are cached.
 use Rattle.std.proofs.Common.{◌≡◌, ℕ, ◌+◌, ◌<◌, Bool, true, false, not, ◌&&◌, ◌||◌, cond, eqb, List, [], map, length, get_or, refl, sym, ◌∙◌, ap, subst, arith}
-use Rattle.std.specs.Prelude.{replicate}
 use Rattle.std.proofs.lemmas.Bool.Decides.{Decides-eqb}
-use Rattle.std.proofs.lemmas.List.{get_or-map, get_or-replicate, length-map}
 use Rattle.lf_ast.specs.Labels.{Bytes}
 use Rattle.lf_ast.specs.declared.expr.MatchOp.{MatchOp}
 use Rattle.lf_ast.specs.declared.expr.MatchOp.TheVariants.{Matches}
 use Rattle.std.proofs.lemmas.Bool.{false_from_ne_true}
 use Rattle.lf_laws.proofs.Booleans.{clash}
 use Rattle.lf_semantics.specs.ClassRows.{HasShape, Sets, emptied, top, holds, is_live, narrowed, remade, normalized}
-use Rattle.lf_semantics.specs.Listing.{Listing, class_counts, named_at}
+use Rattle.lf_semantics.specs.Listing.{Listing, named_at}
 use Rattle.lf_semantics.specs.RowTable.{may_match, passes_class}
-use Rattle.lf_semantics.proofs.RowLaws.{holds-remade, live_when, shape_top, shape_narrowed, shape_remade}
+use Rattle.lf_semantics.proofs.RowLaws.{full_at, holds-remade, live_when, shape_top, shape_narrowed, shape_remade}
 use Rattle.lf_classes.specs.views.PatternCache.{passing_row}
 use Rattle.lf_semantics.proofs.RowSets.{emptied_holds, remade_same}
 use Rattle.lf_flow.specs.views.ClassSets.{IsSet}
 use Rattle.lf_flow.proofs.ClassSets.{row_length, set_length}
 use Rattle.lf_flow.proofs.PatternSets.{retested}
-
--- every class is in the full row
-full_at : (u : Listing) (l c : ℕ) → l < length u.named → c < length (named_at u l) + 2 → holds (top u) l c ≡ true
-full_at u l c h k =
-    let counts = class_counts u in
-    let count = get_or-map (λ named. length named + 2) u.named l [] 0 h in
-    ap (λ set. get_or set c false) (get_or-map (λ count. replicate count true) counts l 0 [] (omega (arith, h, length-map u.named (λ named. length named + 2))))
-    ∙ get_or-replicate (get_or counts l 0) c true false (omega (arith, k, count))
 
 -- the full row of which one label has the classes that pass
 module _ (u : Listing) (label : ℕ) (pass : ℕ → ℕ → Bool) (within : label < length u.named) where

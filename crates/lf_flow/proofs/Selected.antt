@@ -137,6 +137,10 @@ module _ (u : Listing) (p : IsListing u) (env : Environment) (ok : IsEnvironment
   normalized_recorded [] row shape is rows = is
   normalized_recorded (entry ∷ later) row shape is rows = normalized_join u (with_recorded u later row) entry.1 (shape_with_recorded u p env ok row later shape rows.1) rows.0.0 rows.0.1
 
+  pub scraped_is : (row : Sets) → row ≡ scraped_row u env → IsRow u row
+  scraped_is row e =
+      subst (IsRow u) (sym e) (shape_scraped u p env ok, normalized_replaced (is_metric_label u) (λ label class. not (eqb class 0) && not (is_recorded u env label class)) (top u) (normalized_top u p))
+
   pub normalized_seen : (o : Option Bytes) → IsNormalized (seen_row u env o)
   normalized_seen (Some n) = normalized_named env n (row_named env n) refl ok.rows
   normalized_seen None =

@@ -1,10 +1,11 @@
 //! The rows of recorded names.
-ghost use Rattle.std.specs.Prelude.{◌≡◌, ◌↔◌, ◌≢◌, length, map, replicate, None, Some, IfOk, IfSome, IfNone, true, false, IsTrue, not};
+ghost use Rattle.std.specs.Prelude.{◌≡◌, ◌↔◌, ◌≢◌, ◌<◌, length, map, replicate, None, Some, IfOk, IfSome, IfNone, true, false, IsTrue, not};
+ghost use Rattle.std.specs.Option.{option_map};
 ghost use Rattle.lf_ast.specs.Rules.{rule_trees};
 ghost use Rattle.lf_semantics.specs.ClassRows.{Sets, bottom, join};
 ghost use Rattle.lf_semantics.specs.Environments.{Leq, recorded_names};
 ghost use Rattle.lf_semantics.specs.RowTable.{row_named};
-ghost use Rattle.lf_flow.specs.Raising.{joined};
+ghost use Rattle.lf_flow.specs.Raising.{IsJoinOf, joined};
 
 mod numbers;
 
@@ -18,10 +19,13 @@ use std::marker::Model;
 const MOST_NAMES: usize = 4_294_967_295;
 
 /// A row for each recorded name, in the order in which the names come first. Where a name stands is looked up in a map.
+///
+/// The join of all rows is kept as long as rows are only raised: many selectors without a name read it, and each would take as long as there are names to make it.
 #[derive(Drop)]
 pub struct Env {
     names: TextSet,
     rows: Vec<Row>,
+    all: Option<Row>,
 }
 
 impl Model for Env {
@@ -32,7 +36,7 @@ impl Model for Env {
 
     ghost view = { λ env. entries env.names env.rows.items };
 
-    ghost invariant = { λ env. AreEntries env.names env.rows.items };
+    ghost invariant = { λ env. AreEntries env.names env.rows.items env.all };
 }
 
 impl Env {
@@ -40,13 +44,16 @@ impl Env {
     pub fn bottom(alloc: Global, universe: &Universe, rules: &Seq<Rule>) -> Result<Env, Memory>
         ensures { IfOk result (λ env. env ≡ map (λ name. (name, bottom universe.now)) (recorded_names (rule_trees rules.now))) }
     {
+        // For what its contract says of the universe.
+        let _labels = universe.labels();
         let names = recorded_names(alloc, rules.as_slice())?;
         let count = names.len();
         if count > MOST_NAMES {
             return Err(Memory);
         }
         let rows = empty_rows(alloc, universe, count)?;
-        Ok(Env { names, rows })
+        let all = Some(Row::empty(alloc, universe)?);
+        Ok(Env { names, rows, all })
     }
 
     /// The row of a name, and none where no rule records it.
@@ -76,6 +83,19 @@ impl Env {
         self.rows.as_slice()
     }
 
+    /// The join of the rows of all recorded names, if it is kept and there is a name.
+    pub(crate) fn all(&self) -> Option<&Row>
+        ensures { IfSome result (λ all. IsJoinOf (map (λ entry. entry.1) self.now) all.now × (0 < length self.now)) }
+    {
+        if self.rows.len() == 0 {
+            return None;
+        }
+        match &self.all {
+            Some(all) => Some(all),
+            None => None,
+        }
+    }
+
     /// Joins a row of the universe to the row of a recorded name, and says whether this added a class. It takes no memory.
     pub fn raise(&mut self, name: &str, row: &Row) -> bool
         requires recorded { row_named self.old name.now ≢ None }
@@ -84,6 +104,9 @@ impl Env {
         ensures added { (other : Sets) → row_named self.old name.now ≡ Some other → IsTrue (not result) ↔ Leq row.now other }
         ensures same { result ≡ false → self.new ≡ self.old }
     {
+        // For what is known of every row.
+        let _empty = row.is_empty();
+        join_kept(&mut self.all, row);
         let place = self.names.place(name);
         join(&mut self.rows[place], row)
     }
@@ -101,6 +124,17 @@ fn join(own: &mut Row, row: &Row) -> bool
     }
     own.join(row);
     true
+}
+
+/// Joins a row to another one that is kept.
+fn join_kept(kept: &mut Option<Row>, row: &Row)
+    requires { IfSome kept.old (λ all. map length all ≡ map length row.now) }
+    ensures { kept.new ≡ option_map (λ all. join all row.now) kept.old }
+{
+    match kept {
+        Some(all) => all.join(row),
+        None => {}
+    }
 }
 
 /// As many empty rows.

@@ -85,7 +85,10 @@ fn nameless(alloc: Global, universe: &Universe, env: &Env) -> Result<Row, Memory
     ensures { IfOk result (λ row. row ≡ with_recorded universe.now env.now (scraped_row universe.now env.now)) }
 {
     let mut row = scraped(alloc, universe, env)?;
-    join_each(universe, env.rows(), &mut row);
+    match env.all() {
+        Some(all) => row.join(all),
+        None => join_each(universe, env.rows(), &mut row),
+    }
     Ok(row)
 }
 

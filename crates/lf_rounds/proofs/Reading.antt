@@ -14,6 +14,7 @@ use Rattle.lf_ast.specs.Selectors.{metric}
 use Rattle.lf_classes.specs.RowWords.{row_of_words, word_count}
 use Rattle.lf_laws.proofs.Members.{each_member, same_sums}
 use Rattle.lf_laws.specs.Ascending.{AreAscending}
+use Rattle.lf_flow.proofs.Joins.{all_set}
 use Rattle.lf_flow.specs.Reads.{name_at, names_of, rows_of, with_row}
 use Rattle.lf_semantics.specs.ClassRows.{Sets}
 use Rattle.lf_semantics.specs.Environments.{IsEnvironment, IsEnvironmentOf, IsRow}
@@ -36,11 +37,6 @@ row_at u (name ∷ ns) words (suc k) h =
     ∙ ap (λ m. row_of_words u (take n (drop m words))) (let e : n + k * n ≡ suc k * n = omega (arith, suc-mul k n) in e)
 
 -- an environment in which a name has another row
-
-all_set : {X : Type 0} (P : X → Type 0) (xs : List X) (k : ℕ) (x : X) → AllByRecursion P xs → P x → AllByRecursion P (set xs k x)
-all_set P [] k x all h = tt
-all_set P (y ∷ xs) zero x all h = (h, all.1)
-all_set P (y ∷ xs) (suc k) x all h = (all.0, all_set P xs k x all.1 h)
 
 module _ (env : Environment) (k : ℕ) (row : Sets) (h : k < length env) where
   pub names_put : names_of (with_row k row env) ≡ names_of env

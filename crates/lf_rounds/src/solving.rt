@@ -17,9 +17,10 @@ use crate::round::{recording_rules_by, take_row};
 use crate::table_words::TableWords;
 use crate::{Round, RoundSeat};
 use lf_ast::Rule;
-use lf_base::{Gate, Memory, Seq};
+use lf_base::{Gate, Memory, Seq, Text};
 use lf_classes::Universe;
 use lf_deps::Sources;
+use lf_fix::solve_by;
 use lf_flow::Env;
 use std::alloc::Global;
 use std::thread::{Threads, join};
@@ -31,6 +32,10 @@ const TURNS: u32 = 2;
 /// longer to make, and to load from the words, than it saves the others.
 const SHARED_WORDS: usize = 65_536;
 
+/// How many rows selectors without a name may read together where the environment is found in rounds. Each of them reads the rows of all recorded names, and in a round each
+/// row that a rule reads is loaded for this rule; `solve` has the join of all rows at hand.
+const READ_ROWS: usize = 65_536;
+
 /// The least environment of rules, by 1 to 64 workers: round by round they raise the words of the rows, until a round changes none, or leaves no rule due. It is the same for
 /// every number of workers, whoever of them computes which rule and when.
 ///
@@ -38,6 +43,8 @@ const SHARED_WORDS: usize = 65_536;
 /// read what a rule taken before them records. Each second round is made by one worker, who takes the rules in their order, and so is each round over more words than each
 /// worker should have for itself. Where several take the rules, one may come to a rule while another is still at what it reads, and a long chain of such rules would take as
 /// many rounds.
+///
+/// Where many selectors say no name, one worker finds the environment by `solve`: rounds would take as long as there are such rules times the recorded names.
 pub fn solve_shared<R: Threads + Sync, G: Gate + Sync>(
     rt: &R,
     alloc: Global,
@@ -69,6 +76,27 @@ pub fn solve_shared_by<R: Threads + Sync, G: Gate + Sync>(
     requires sources { IsSourcesOf (rule_trees rules.now) sources.now }
     ensures { IfOk result (IsLeast universe.now (rule_trees rules.now)) }
 {
+    if read_many(sources) {
+        return solve_by(alloc, universe, rules, sources);
+    }
+    solve_in_rounds(rt, alloc, universe, rules, sources, workers, gate)
+}
+
+/// The same, round by round.
+fn solve_in_rounds<R: Threads + Sync, G: Gate + Sync>(
+    rt: &R,
+    alloc: Global,
+    universe: &Universe,
+    rules: &Seq<Rule>,
+    sources: &Sources,
+    workers: u32,
+    gate: &G,
+) -> Result<Env, Memory>
+    requires workers { (0 < workers) × (workers ≤ 64) }
+    requires covers { CoversRules universe.now (rule_trees rules.now) }
+    requires sources { IsSourcesOf (rule_trees rules.now) sources.now }
+    ensures { IfOk result (IsLeast universe.now (rule_trees rules.now)) }
+{
     // For what its contract says of the universe.
     let _labels = universe.labels();
     let mut env = Env::bottom(alloc, universe, rules)?;
@@ -87,6 +115,27 @@ pub fn solve_shared_by<R: Threads + Sync, G: Gate + Sync>(
         }
         turn = (turn % TURNS + 1) % TURNS;
     }
+}
+
+/// Whether the rules that have a selector without a name read more rows together than rounds should load. It is for speed alone which way is taken, so no clause says it.
+fn read_many(sources: &Sources) -> bool {
+    let mut rules = 0_usize;
+    for k in 0..sources.rule_count() {
+        if reads_all(sources.selected_by(k)) {
+            rules = rules.saturating_add(1);
+        }
+    }
+    rules.saturating_mul(sources.recorded().len()) > READ_ROWS
+}
+
+/// Whether one of these selectors has no name.
+fn reads_all(found: &[Option<Text>]) -> bool {
+    for selector in found {
+        if selector.is_none() {
+            return true;
+        }
+    }
+    false
 }
 
 /// Whether no further round is needed behind one at whose start the words had this sum: no rule is due, or no word changed.

@@ -4,9 +4,9 @@ use Rattle.std.specs.List.{Contains}
 use Rattle.lf_ast.specs.Rules.{RuleTree}
 use Rattle.lf_flow.specs.Raising.{joined}
 use Rattle.lf_semantics.specs.ClassRows.{Sets, bottom}
-use Rattle.lf_semantics.specs.Environments.{EnvironmentLeq, IsPostFixedPoint, IsEnvironmentOf, Leq, recorded_names, recorded_row}
+use Rattle.lf_semantics.specs.Environments.{EnvironmentLeq, HoldsRule, IsPostFixedPoint, IsEnvironmentOf, recorded_names, recorded_row}
 use Rattle.lf_semantics.specs.Listing.{Listing}
-use Rattle.lf_semantics.specs.RowTable.{Environment, row_named}
+use Rattle.lf_semantics.specs.RowTable.{Environment}
 use Rattle.lf_fix.specs.views.Dependents.{SelectsRow}
 
 -- no recorded name has a sample
@@ -25,10 +25,6 @@ missing_of (set ∷ row) = missing_in set + missing_of row
 abbrev pub missing : Environment → ℕ
 missing [] = 0
 missing (entry ∷ env) = missing_of entry.1 + missing env
-
--- what the rule stores lies in the row of its name
-abbrev pub HoldsRule : Listing → Environment → RuleTree → Type 0
-HoldsRule u env r = r.alert ≡ false → (row : Sets) × (row_named env r.name ≡ Some row) × Leq (recorded_row u env r) row
 
 -- what steps make of an environment: one of the same rules, in each closed one in which the earlier one lies
 pub record Rises (u : Listing) (rules : List RuleTree) (env later : Environment) : Type 0 where

@@ -44,11 +44,12 @@ impl Env {
         &self.rows[k as usize]
     }
 
-    /// Gives the recorded name with the number `k` another row, in place of its own.
+    /// Gives the recorded name with the number `k` another row, in place of its own. The join of all rows isn't kept any more.
     pub fn put(&mut self, k: u32, row: Row)
         requires { k < length self.old }
         ensures { self.new ≡ with_row k row self.old }
     {
+        self.all = None;
         self.rows[k as usize] = row;
     }
 }

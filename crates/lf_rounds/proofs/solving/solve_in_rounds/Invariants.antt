@@ -3,7 +3,7 @@ use Rattle.lf_ast.specs.Rules.{rule_trees}
 use Rattle.lf_semantics.specs.Environments.{IsEnvironmentOf}
 use Rattle.lf_rounds.specs.views.Rising.{bits_set}
 use Rattle.lf_rounds.specs.views.Standings.{IsStanding}
-use Rattle.lf_rounds.proofs.solving.solve_shared_by.Given as goal
+use Rattle.lf_rounds.proofs.solving.solve_in_rounds.Given as goal
 
 abbrev pub invariant-rounds : goal.invariant-rounds
 invariant-rounds g l = record {

@@ -13,7 +13,7 @@ use Rattle.lf_rounds.specs.Words.{environment_of}
 use Rattle.lf_rounds.proofs.Bits.{bits_more, bits_most}
 use Rattle.lf_rounds.proofs.Standings.{least_at_end, none_due}
 use Rattle.lf_rounds.proofs.SumLaws.{same_by_sum}
-use Rattle.lf_rounds.proofs.solving.solve_shared_by.Goals as goal
+use Rattle.lf_rounds.proofs.solving.solve_in_rounds.Goals as goal
 
 pub rounds-init : goal.rounds-init
 rounds-init g c =
