@@ -1,5 +1,5 @@
 //! The strongly connected components of a graph.
-ghost use Rattle.std.specs.Prelude.{◌≡◌, ◌<◌, ◌↔◌, [], ℕ, List, length, map, replicate, IfOk, IsTrue, OnOk};
+ghost use Rattle.std.specs.Prelude.{◌≡◌, ◌<◌, ◌↔◌, [], ℕ, List, length, map, replicate, slice_index_or, IfOk, IsTrue, OnOk};
 ghost use Rattle.std.specs.List.{Contains};
 ghost use Rattle.lf_laws.specs.Ascending.{AreAscending};
 ghost use Rattle.lf_graph.specs.Components.{AreComponents, AreNumbers, number_of};
@@ -48,6 +48,28 @@ impl Components {
             members,
             nexts,
         })
+    }
+
+    /// How many there are.
+    pub fn count(&self) -> usize
+        ensures { result ≡ length self.now.members }
+    {
+        self.members.len()
+    }
+
+    /// The number of each node's component.
+    pub fn numbers(&self) -> &[usize]
+        ensures { result.now ≡ self.now.numbers }
+    {
+        self.numbers.as_slice()
+    }
+
+    /// The components to which an edge leads from a node of one, perhaps its own.
+    pub fn nexts(&self, number: usize) -> &BTreeSet<usize>
+        requires { number < length self.now.nexts }
+        ensures { result.now.keys ≡ slice_index_or self.now.nexts number [] }
+    {
+        &self.nexts[number]
     }
 
     /// Whether an edge or more lead from a node to itself.

@@ -5,6 +5,7 @@ pub mod OneMeasure
 pub mod OpenLabels
 pub mod PreparedFor
 pub mod Reaches
+pub mod RuleGraph
 pub mod RuleRows
 pub mod ShownWorlds
 pub mod StandsOpen

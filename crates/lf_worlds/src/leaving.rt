@@ -37,7 +37,7 @@ pub fn settled(alloc: Global, universe: &Universe, row: &Row) -> Result<Seq<Labe
     ensures { (env : Environment) (rules : List RuleTree) (i : ℕ) → IfOk result (λ of. AreLabelVerdicts universe.now env rules i row.now (labels_in universe.now) (map label_verdict of)) }
 {
     let count = universe.labels() as usize;
-    let mut verdicts = Seq::from_vec(Vec::with_capacity(alloc, count)?);
+    let mut verdicts = Seq::with_capacity(alloc, count)?;
     for label in 0..universe.labels() {
         verdicts.push(by_row(universe, row, label))?;
     }

@@ -8,6 +8,7 @@ mod measure;
 mod of_rule;
 mod one_call;
 mod readings;
+mod rule_graph;
 mod showing;
 mod verdict;
 

@@ -90,7 +90,7 @@ impl<'a> RuleTrials<'a> {
         ensures { IfOk result (λ of. AreLabelVerdicts self.old.universe self.old.env (rule_trees self.old.rules) self.old.number row.now (labels_in self.old.universe) (map label_verdict of)) }
     {
         let count = self.universe.labels() as usize;
-        let mut verdicts = Seq::from_vec(Vec::with_capacity(alloc, count)?);
+        let mut verdicts = Seq::with_capacity(alloc, count)?;
         for label in 0..self.universe.labels() {
             verdicts.push(self.verdict(alloc, row, label)?)?;
         }

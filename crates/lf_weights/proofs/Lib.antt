@@ -1,0 +1,4 @@
+mod Blocks
+mod Nodes
+mod Passing
+mod Sums

@@ -1,0 +1,2 @@
+-- How contracts see the code's own data. It defines nothing.
+pub mod Masks
