@@ -18,4 +18,5 @@ pub mod SeriesNames
 pub mod SideTexts
 pub mod StandingParts
 pub mod Tasks
+pub mod Unnamed
 pub mod Works

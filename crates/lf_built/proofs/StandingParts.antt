@@ -1,5 +1,5 @@
 -- What is told of an expression is looked up where it stands.
-use Rattle.std.proofs.Common.{◌≡◌, ◌<◌, ◌≤◌, ◌+◌, ℕ, suc, List, [], false, map, length, take, get_or, Some, sym, ◌∙◌, ap, subst, arith}
+use Rattle.std.proofs.Common.{◌≡◌, ◌<◌, ◌≤◌, ◌+◌, ℕ, suc, List, [], false, map, length, take, get_or, Option, None, Some, sym, ◌∙◌, ap, subst, arith}
 use Rattle.std.specs.Prelude.{slice_get}
 use Rattle.std.specs.List.{Contains}
 use Rattle.std.specs.List.{sum_by}
@@ -23,7 +23,10 @@ use Rattle.lf_built.specs.views.Marking.{marks_at}
 use Rattle.lf_built.specs.views.PartRows.{PartRows, part_rows}
 use Rattle.lf_built.specs.views.Places.{StandsFrom, size}
 use Rattle.lf_built.specs.views.Spots.{IsSpot, tree_at}
+use Rattle.lf_built.specs.declared.unsaid.SoughtName.{SoughtName}
+use Rattle.lf_built.specs.views.Unsaid.{AreSought, IsSought}
 use Rattle.lf_semantics.proofs.PartsCovered.{part_covered, rule_covered}
+use Rattle.lf_built.proofs.OwnRows.{as_many, side_by_side}
 use Rattle.lf_built.proofs.Places.{part_stands, stands_at, stands_within}
 
 module _ (p : Prepared) (known : IsPrepared p) where
@@ -98,6 +101,18 @@ module _ (p : Prepared) (known : IsPrepared p) where
 
       pub marks_told : (marks : NodeMarks) → marks ≡ get_or x spot.place marks → marks ≡ marks_at (labels_in (universe_of p)) (tree_at spot)
       marks_told marks read = read ∙ ap (λ (y : List NodeMarks). get_or y spot.place marks) marked ∙ looked_up (marks_at (labels_in (universe_of p))) marks
+
+    -- the name that was sought for it
+    abbrev Found : RuleTree → List (Option SoughtName) → Type 0
+    Found r found = AreSought (universe_of p) (trees_of p) (nodes r.expr) found
+
+    pub sought_there : spot.rule < length p.sought.items
+    sought_there = subst (λ (n : ℕ). spot.rule < n) (sym (as_many Found (trees_of p) p.sought.items known.sought)) in_trees
+
+    pub sought_told : (x : List (Option SoughtName)) → x ≡ get_or p.sought.items spot.rule x → IsSought (universe_of p) (trees_of p) (tree_at spot) (get_or x spot.place None)
+    sought_told x e =
+        side_by_side Found (trees_of p) p.sought.items spot.rule is.0 x known.sought is.1 e spot.place (tree_at spot)
+        (slice_get-get_or All spot.place (tree_at spot) place_there ∙ ap Some ((stands_at All spot.place (tree_at spot) is.2).1 (tree_at spot)))
 
     -- the universe covers it
     pub covered : Covers (universe_of p) (tree_at spot)

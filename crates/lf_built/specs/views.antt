@@ -12,4 +12,5 @@ pub mod RuleRows
 pub mod Sides
 pub mod Spots
 pub mod Tasks
+pub mod Unsaid
 pub mod Works

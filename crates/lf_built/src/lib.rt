@@ -19,6 +19,7 @@ mod series;
 mod sides;
 mod sizes;
 mod spots;
+mod unsaid;
 mod visiting;
 mod work;
 

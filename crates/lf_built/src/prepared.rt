@@ -12,11 +12,13 @@ ghost use Rattle.lf_built.specs.views.Marking.{marks_at, set_by};
 ghost use Rattle.lf_built.specs.views.Places.{size};
 ghost use Rattle.lf_built.specs.views.RuleRows.{AreRowsOf};
 ghost use Rattle.lf_built.specs.views.Spots.{IsSpot, tree_at};
+ghost use Rattle.lf_built.specs.views.Unsaid.{IsSought};
 
 use crate::marking::{NodeMarks, marks_in_rules, set_by_rules};
 use crate::part_rows::PartRows;
 use crate::row_making::{RuleRow, own_or, rule_rows};
 use crate::spots::Spot;
+use crate::unsaid::{SoughtName, SoughtNames};
 use lf_ast::Rule;
 use lf_base::{Memory, Seq, Text};
 use lf_candidates::{NamedRow, label_names};
@@ -26,8 +28,9 @@ use lf_flow::Env;
 use lf_forks::Forks;
 use std::alloc::Global;
 
-/// What the built worlds of rules share: the index of the rules, the names of the labels, what is told of the parts of each rule's expression, what is
-/// marked of the labels for these parts and for each rule, and the rows of each rule and of what it stores. The row of a rule is that of its whole expression where it isn't told.
+/// What the built worlds of rules share: the index of the rules, the names of the labels, what is told of the parts of each rule's expression, the names that were sought for
+/// its selectors, what is marked of the labels for these parts and for each rule, and the rows of each rule and of what it stores. The row of a rule is that of its whole
+/// expression where it isn't told.
 #[derive(Drop)]
 pub struct Prepared<'a> {
     pub(crate) universe: &'a Universe,
@@ -37,16 +40,18 @@ pub struct Prepared<'a> {
     pub(crate) forks: &'a Forks,
     pub(crate) names: Vec<Text>,
     pub(crate) parts: Vec<PartRows>,
+    pub(crate) sought: Vec<SoughtNames>,
     pub(crate) marks: Vec<Seq<NodeMarks>>,
     pub(crate) set: Vec<Seq<bool>>,
     pub(crate) rows: Vec<Option<Row>>,
     pub(crate) recorded: Vec<Row>,
 }
 
-/// What is told of the parts of rules' expressions, and the rows of the rules and of what they store, each in a list of its own.
+/// What is told of the parts of rules' expressions, the names that were sought, and the rows of the rules and of what they store, each in a list of its own.
 #[derive(Drop)]
 struct RowLists {
     parts: Vec<PartRows>,
+    sought: Vec<SoughtNames>,
     own: Vec<Option<Row>>,
     recorded: Vec<Row>,
 }
@@ -94,6 +99,7 @@ impl<'a> Prepared<'a> {
         let set = set_by_rules(alloc, labels, all)?;
         let RowLists {
             parts,
+            sought,
             own,
             recorded,
         } = apart(alloc, rows)?;
@@ -105,6 +111,7 @@ impl<'a> Prepared<'a> {
             forks,
             names,
             parts,
+            sought,
             marks,
             set,
             rows: own,
@@ -128,6 +135,15 @@ impl<'a> Prepared<'a> {
         ensures { result.now ≡ row_of (universe_of self.now) (env_of self.now) (tree_at spot.now) }
     {
         self.parts[spot.rule].named_row(spot.place)
+    }
+
+    /// The name that was sought for a selector, if it was.
+    pub(crate) fn sought_name(&self, spot: &Spot<'a>) -> Option<SoughtName>
+        requires known { IsPrepared self.now }
+        requires spot { IsSpot (trees_of self.now) spot.now }
+        ensures { IsSought (universe_of self.now) (trees_of self.now) (tree_at spot.now) result }
+    {
+        self.sought[spot.rule].at(spot.place)
     }
 
     /// How many parts there are in an expression, with itself.
@@ -199,28 +215,33 @@ impl<'a> Prepared<'a> {
     }
 }
 
-/// What is told of the parts of rules' expressions, and the rows of the rules and of what they store, each in a list of its own.
+/// What is told of the parts of rules' expressions, the names that were sought, and the rows of the rules and of what they store, each in a list of its own.
 fn apart(alloc: Global, mut rows: Seq<RuleRow>) -> Result<RowLists, Memory>
     ensures parts { IfOk result (λ apart. apart.parts.items ≡ map (λ (row : RuleRow). row.parts) rows) }
+    ensures sought { IfOk result (λ apart. apart.sought.items ≡ map (λ (row : RuleRow). row.names) rows) }
     ensures own { IfOk result (λ apart. apart.own.items ≡ map (λ (row : RuleRow). row.own) rows) }
     ensures recorded { IfOk result (λ apart. apart.recorded.items ≡ map (λ (row : RuleRow). row.recorded) rows) }
 {
     let mut apart = RowLists {
         parts: Vec::with_capacity(alloc, rows.len())?,
+        sought: Vec::with_capacity(alloc, rows.len())?,
         own: Vec::with_capacity(alloc, rows.len())?,
         recorded: Vec::with_capacity(alloc, rows.len())?,
     };
     while let Some(row) = rows.pop() {
         let RuleRow {
             parts,
+            names,
             own,
             recorded,
         } = row;
         apart.parts.push(parts)?;
+        apart.sought.push(names)?;
         apart.own.push(own)?;
         apart.recorded.push(recorded)?;
     }
     apart.parts.reverse();
+    apart.sought.reverse();
     apart.own.reverse();
     apart.recorded.reverse();
     Ok(apart)

@@ -1,20 +1,22 @@
 //! The rows of rules.
-ghost use Rattle.std.specs.Prelude.{◌≡◌, ◌<◌, ◌≤◌, None, Some, cond, length, slice_get, IfOk};
+ghost use Rattle.std.specs.Prelude.{◌≡◌, ◌<◌, ◌≤◌, List, None, Some, cond, length, slice_get, IfOk};
 ghost use Rattle.lf_ast.specs.Tree.{nodes};
 ghost use Rattle.lf_ast.specs.Rules.{RuleTree, rule_tree, rule_trees};
 ghost use Rattle.lf_deps.specs.views.Sources.{IsSourcesOf};
 ghost use Rattle.lf_semantics.specs.ClassRows.{is_live};
-ghost use Rattle.lf_semantics.specs.Environments.{IsEnvironment, recorded_row as row_recorded, rule_row as row_of_rule};
+ghost use Rattle.lf_semantics.specs.Environments.{IsEnvironment, recorded_names, recorded_row as row_recorded, rule_row as row_of_rule};
 ghost use Rattle.lf_semantics.specs.RowTable.{row_of as row_in};
 ghost use Rattle.lf_trials.specs.Forks.{has_passing};
 ghost use Rattle.lf_forks.specs.views.Holding.{test_of};
 ghost use Rattle.lf_built.specs.views.PartRows.{part_rows as rows_of_parts};
 ghost use Rattle.lf_built.specs.views.RuleRows.{AreRowsOf, IsRowOf, own_or};
+ghost use Rattle.lf_built.specs.views.Unsaid.{AreSought};
 
 use crate::part_rows::PartRows;
+use crate::unsaid::SoughtNames;
 use lf_ast::Rule;
 use lf_base::{Memory, Seq, Text};
-use lf_classes::{Row, Universe};
+use lf_classes::{Row, TextSet, Universe};
 use lf_deps::Sources;
 use lf_fix::{make_recorded, rule_row_by};
 use lf_flow::Env;
@@ -27,10 +29,12 @@ const METRIC: u32 = 0;
 /// How many names of a rule are taken to be those of its rows. A row that has none of them takes a look at each in vain, and a rule may select thousands.
 const MOST_LIKELY: usize = 8;
 
-/// What is told of the parts of a rule's expression, and the rows of the rule and of what it stores. The row of a rule is that of the whole expression where it isn't told.
+/// What is told of the parts of a rule's expression, the names that were sought for its selectors, and the rows of the rule and of what it stores. The row of a rule is that of
+/// the whole expression where it isn't told.
 #[derive(Drop)]
 pub struct RuleRow {
     pub(crate) parts: PartRows,
+    pub(crate) names: SoughtNames,
     pub(crate) own: Option<Row>,
     pub(crate) recorded: Row,
 }
@@ -49,11 +53,13 @@ impl RuleRow {
         requires env { IsEnvironment universe.now env.now }
         requires sources { IsSourcesOf (rule_trees rules.now) sources.now }
         requires rule { number < length rules.now }
-        ensures { (r : RuleTree) → slice_get (rule_trees rules.now) number ≡ Some r → IfOk result (IsRowOf universe.now env.now forks.now r) }
+        ensures { (r : RuleTree) → slice_get (rule_trees rules.now) number ≡ Some r → IfOk result (IsRowOf universe.now env.now forks.now (rule_trees rules.now) r) }
     {
-        let likely = likely_names(alloc, universe, sources.selected_by(number))?;
+        let selected = sources.selected_by(number);
         let rule = rules.get(number);
-        let row = row_of(alloc, universe, env, forks, rule, likely.as_slice())?;
+        let names = names_of(alloc, universe, sources.recorded(), selected, rule)?;
+        let likely = likely_names(alloc, universe, selected)?;
+        let row = row_of(alloc, universe, env, forks, rule, names, likely.as_slice())?;
         Ok(row)
     }
 }
@@ -79,16 +85,33 @@ pub fn rule_rows(
     Ok(rows)
 }
 
-/// What is told of a rule. Its own row, where it isn't empty, is that of its whole expression, which stands first among those of the parts and isn't copied.
+/// The names that are sought for the selectors of a rule.
+fn names_of(
+    alloc: Global,
+    universe: &Universe,
+    recorded: &TextSet,
+    selected: &[Option<Text>],
+    rule: &Rule,
+) -> Result<SoughtNames, Memory>
+    ensures { (rules : List RuleTree) → recorded.now ≡ recorded_names rules → IfOk result (AreSought universe.now rules (nodes (rule_tree rule.now).expr)) }
+{
+    // For what its contract says of the universe.
+    let _labels = universe.labels();
+    SoughtNames::of(alloc, universe, recorded, selected, &rule.expr)
+}
+
+/// What is told of a rule, with the names that were sought for its selectors. Its own row, where it isn't empty, is that of its whole expression, which stands first among those of the parts and isn't copied.
 fn row_of(
     alloc: Global,
     universe: &Universe,
     env: &Env,
     forks: &Forks,
     rule: &Rule,
+    names: SoughtNames,
     likely: &[u32],
 ) -> Result<RuleRow, Memory>
     requires env { IsEnvironment universe.now env.now }
+    ensures names { IfOk result (λ row. row.names ≡ names) }
     ensures parts { IfOk result (λ row. row.parts ≡ rows_of_parts universe.now env.now (has_passing (test_of forks.now)) (nodes (rule_tree rule.now).expr)) }
     ensures own { IfOk result (λ row. own_or row.own (row_in universe.now env.now (rule_tree rule.now).expr) ≡ row_of_rule universe.now env.now (rule_tree rule.now)) }
     ensures recorded { IfOk result (λ row. row.recorded ≡ row_recorded universe.now env.now (rule_tree rule.now)) }
@@ -101,6 +124,7 @@ fn row_of(
     make_recorded(universe, &mut recorded, rule);
     Ok(RuleRow {
         parts,
+        names,
         own,
         recorded,
     })

@@ -14,6 +14,7 @@ ghost use Rattle.lf_built.specs.views.Indexed.{IsPrepared, env_of, trees_of, uni
 ghost use Rattle.lf_built.specs.views.Places.{size};
 ghost use Rattle.lf_built.specs.views.Spots.{IsSelector, IsSpot, tree_at};
 ghost use Rattle.lf_built.specs.views.Tasks.{IsNoSelector, parts_wanted};
+ghost use Rattle.lf_built.specs.views.Unsaid.{IsUnnamed};
 ghost use Rattle.lf_built.specs.views.Works.{GoesOn, IsEntered, Leaves, LeavesBehind, all_of, by_rule_of, effort, expression_of, marks_of, selector_of, stack_of, weight};
 
 use crate::operands::without_marked;
@@ -88,7 +89,7 @@ impl<'a> Prepared<'a> {
         match selector_of(spot.expr) {
             Some((name, matchers)) => {
                 let name = selected_name(name, matchers);
-                self.select(alloc, most, name, matchers, texts, work)
+                self.select(alloc, most, spot, name, matchers, texts, work)
             }
             None => self.expand(spot, texts, work),
         }
@@ -122,6 +123,7 @@ impl<'a> Prepared<'a> {
         &self,
         alloc: Global,
         most: usize,
+        spot: &Spot<'a>,
         name: Option<&Text>,
         matchers: &[Matcher],
         texts: LabelTexts,
@@ -129,6 +131,8 @@ impl<'a> Prepared<'a> {
     ) -> Result<bool, Memory>
         requires known { IsPrepared self.now }
         requires few { work.old.made.selectors ≤ most }
+        requires spot { IsSpot (trees_of self.now) spot.now }
+        requires unnamed { option_copied name ≡ None → IsUnnamed (tree_at spot.now) matchers.now }
         requires names { (n : Bytes) → option_copied name ≡ Some n → KnowsName (universe_of self.now) n }
         requires texts { (D : Given) × Stands (universe_of self.now) texts D }
         ensures goes { (whole : Option Building) (D : Given) → Stands (universe_of self.now) texts D → LeavesBehind self.now whole (selector_of self.now work.old (option_copied name.entry) matchers.now D) work.old → IfOk result (GoesOn self.now most whole work.new) }
@@ -142,12 +146,14 @@ impl<'a> Prepared<'a> {
             None => {
                 let names = self.names.as_slice();
                 let recorded = self.sources.recorded();
+                let sought = self.sought_name(spot);
                 let series = series_unnamed(
                     alloc,
                     self.universe,
                     names,
                     recorded,
                     matchers,
+                    sought,
                     texts,
                 )?;
                 add_found(most, series, work)
@@ -232,7 +238,7 @@ impl<'a> Prepared<'a> {
 }
 
 /// The name before the braces of a selector, and its matchers.
-fn selector_of<'e>(expr: &'e Expr) -> Option<(&'e Option<Text>, &'e [Matcher])>
+pub(crate) fn selector_of<'e>(expr: &'e Expr) -> Option<(&'e Option<Text>, &'e [Matcher])>
     ensures some { IfSome result (λ s. IsSelector (tree expr.now) s.0.now s.1.now) }
     ensures none { IfNone result (IsNoSelector (tree expr.now)) }
 {

@@ -18,6 +18,7 @@ use Rattle.lf_flow.proofs.env.Env.TheSendSync as env
 use Rattle.lf_forks.proofs.forks.Forks.TheSendSync as forks
 use Rattle.lf_built.proofs.marking.NodeMarks.TheSendSync as node_marks
 use Rattle.lf_built.proofs.part_rows.PartRows.TheSendSync as part_rows
+use Rattle.lf_built.proofs.unsaid.SoughtNames.TheSendSync as sought_names
 use Rattle.lf_worlds.specs.contracts.each_rule.Trials as Trials
 use Rattle.lf_checks.proofs.rule_dependency.RecordedNames.TheSendSync as recorded
 use Rattle.lf_report.proofs.line_index.Position.TheSendSync as position
@@ -34,4 +35,4 @@ hand_sync κ =
 
 pub trials_sync : (κ : NamedLft) → IsSync (Trials.the_row κ)
 trials_sync κ =
-    search (sendable, rule_sync, env.the_sync, seq.the_sync, universe.the_sync, node_marks.the_sync, part_rows.the_sync, graph.the_sync, row.the_sync, text.the_sync, sources.the_sync, forks.the_sync, crosses) depth 40 fits 200000
+    search (sendable, rule_sync, env.the_sync, seq.the_sync, universe.the_sync, node_marks.the_sync, part_rows.the_sync, sought_names.the_sync, graph.the_sync, row.the_sync, text.the_sync, sources.the_sync, forks.the_sync, crosses) depth 40 fits 200000

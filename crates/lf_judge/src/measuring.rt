@@ -143,8 +143,7 @@ fn limit_trials(
     ensures within { IfOk result (λ _. AreWithin true (rule_trees rules.now)) }
     ensures refused { IfErr result (EndsWith true (rule_trees rules.now)) }
 {
-    let (sources, graph) = (recorded.sources(), recorded.graph());
-    let selected = label_selectors_by(alloc, universe, rules, sources, graph)?;
+    let selected = label_selectors_by(alloc, universe, rules, recorded.sources())?;
     if selected > MOST_SELECTED {
         return Err(JudgeEnd::Limit {
             quantity: SELECTED,

@@ -148,8 +148,7 @@ fn reports_of(
     ensures { IfOk result (TellsRulesAt hand.now true) }
 {
     let mut taken = taken_out(alloc, found)?;
-    let room = Vec::with_capacity(alloc, taken.len())?;
-    let mut told = Seq::from_vec(room);
+    let mut told = Seq::with_capacity(alloc, taken.len())?;
     while let Some(next) = taken.pop() {
         let number = told.len();
         let first = first_at(firsts, number);

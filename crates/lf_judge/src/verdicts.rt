@@ -69,8 +69,7 @@ fn each_told(
     ensures { (r : RuleTree) → r.expr_span ≡ span → IfOk result (λ told. told ≡ map (λ v. verdict_told first number r (label_verdict v)) known) }
 {
     let mut taken = taken_out(alloc, known)?;
-    let room = Vec::with_capacity(alloc, taken.len())?;
-    let mut told = Seq::from_vec(room);
+    let mut told = Seq::with_capacity(alloc, taken.len())?;
     while let Some(verdict) = taken.pop() {
         told.push(label_told(verdict, first, number, span))?;
     }

@@ -5,6 +5,7 @@ pub mod MetricNames
 pub mod NamedSeries
 pub mod Operands
 pub mod Preparing
+pub mod RequiredTexts
 pub mod Rounds
 pub mod SeriesNames
 pub mod Sound

@@ -1,8 +1,7 @@
 -- Rounds over rules put those in line that are ready.
-use Rattle.std.proofs.Common.{◌≡◌, ◌<◌, ◌⊎◌, inl, inr, ℕ, suc, ◌+◌, Bool, true, false, not, ◌&&◌, ◌||◌, cond, nat_lt, get_or, List, [], ◌∷◌, ◌++◌, length, reverse, Option, Some, None, refl, sym, ◌∙◌, ap, subst, true≢false, arith, length-append}
+use Rattle.std.proofs.Common.{◌≡◌, ◌<◌, ◌⊎◌, inl, inr, ℕ, ◌+◌, Bool, true, false, not, ◌&&◌, ◌||◌, nat_lt, get_or, List, [], ◌∷◌, ◌++◌, length, reverse, Option, Some, None, refl, sym, ◌∙◌, ap, subst, true≢false, arith, length-append}
 use Rattle.std.specs.Prelude.{slice_get}
 use Rattle.std.specs.List.{Contains}
-use Rattle.std.specs.Str.{bytes_eq}
 use Rattle.std.proofs.lemmas.Bool.{cases_lt}
 use Rattle.std.proofs.lemmas.Bool.Decides.{nat_tests}
 use Rattle.std.proofs.lemmas.List.{get_or-append-add, get_or_append_left, reverse-append}
@@ -13,22 +12,11 @@ use Rattle.lf_ast.specs.Labels.{Bytes}
 use Rattle.lf_ast.specs.Rules.{RuleTree}
 use Rattle.lf_deps.specs.Reading.{selectors}
 use Rattle.lf_deps.specs.views.Names.{IsPlaced}
+use Rattle.lf_deps.proofs.Placed.{in_front, place_front}
 use Rattle.lf_semantics.specs.Listing.{place}
 use Rattle.lf_semantics.proofs.ListingLaws.{place_within}
 use Rattle.lf_trials.specs.Reached.{is_recorded}
 use Rattle.lf_uniform.specs.views.Lines.{AreEntries, IsEntry, IsLineOf, IsReady, IsRound, IsSettled, IsWaiting, Line, Stays, first_of, is_in, is_no_wait, is_ready}
-
--- places in a longer list
-pub place_front : (xs ys : List Bytes) (name : Bytes) → IsPlaced xs name → place (xs ++ ys) name ≡ place xs name
-place_front [] ys name h = absurd (omega (arith, h))
-place_front (x ∷ xs) ys name h = by (bytes_eq x name) h (place_front xs ys name)
-  where
-    by : (b : Bool) → cond (not b) (1 + place xs name) 0 < suc (length xs) → (IsPlaced xs name → place (xs ++ ys) name ≡ place xs name) → cond (not b) (1 + place (xs ++ ys) name) 0 ≡ cond (not b) (1 + place xs name) 0
-    by true h later = refl
-    by false h later = let e = later (omega (arith, h)) in omega (arith, e)
-
-in_front : (xs ys : List Bytes) (name : Bytes) → IsPlaced xs name → IsPlaced (xs ++ ys) name
-in_front xs ys name h = let e = place_front xs ys name h in let n = length-append xs ys in omega (arith, e, n, h)
 
 in_last : (xs : List Bytes) (name : Bytes) → IsPlaced (xs ++ name ∷ []) name
 in_last xs name = place_within (xs ++ name ∷ []) name (Contains-append_right xs (name ∷ []) name (here name []))

@@ -3,6 +3,7 @@ pub mod Following
 pub mod Lines
 pub mod Naming
 pub mod NamingVisits
+pub mod Required
 pub mod Settings
 pub mod Texts
 pub mod Ways

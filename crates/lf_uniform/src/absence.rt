@@ -36,7 +36,7 @@ fn equal_text<'a>(matchers: &'a [Matcher], label: &str) -> &'a str
 }
 
 /// The text of the first `=` on a label, and else none.
-fn first_equal<'a>(matchers: &'a [Matcher], label: &str) -> &'a str
+pub fn first_equal<'a>(matchers: &'a [Matcher], label: &str) -> &'a str
     ensures { result.now ≡ first_equal label.now matchers.now }
 {
     for matcher in matchers {

@@ -7,10 +7,11 @@ ghost use Rattle.lf_semantics.specs.Grouped.{is_metric};
 ghost use Rattle.lf_semantics.specs.Listing.{named_at};
 ghost use Rattle.lf_trials.specs.Candidates.{candidates, labels_in};
 ghost use Rattle.lf_candidates.specs.views.ClassTexts.{IsClass, Stands, name_at, text_at};
-ghost use Rattle.lf_uniform.specs.views.Texts.{comes_out, first_texts, is_followed, passes_as};
+ghost use Rattle.lf_uniform.specs.views.Texts.{IsOnly, comes_out, first_texts, is_followed, passes_as};
 ghost use Rattle.lf_uniform.specs.views.Ways.{IsWay};
 
 use crate::line::Line;
+use crate::only::only_class;
 use crate::setting::Setting;
 use crate::table::follow_from;
 use lf_base::{Memory, Text};
@@ -62,6 +63,52 @@ pub fn first_texts(
 
 /// The class of a label's first candidate with which it can be followed and comes out as it is wanted.
 pub fn first_followed(
+    alloc: Global,
+    setting: &Setting,
+    line: &Line,
+    number: u32,
+    label: u32,
+    name: &Text,
+    wanted: WantedPresence,
+) -> Result<Option<u32>, Memory>
+    requires way { IsWay (rule_trees setting.now.rules) number line.now }
+    requires label { label < length setting.now.universe.named }
+    requires name { name.now ≡ name_at setting.now.universe label }
+    ensures class { IfOk result (IsClass setting.now.universe label) }
+    ensures text { (own : RuleTree) → slice_get (rule_trees setting.now.rules) number ≡ Some own → IfOk result (λ class. option_map (text_at setting.now.universe label) class ≡ find (is_followed setting.now.universe (rule_trees setting.now.rules) number own wanted (name_at setting.now.universe label)) (candidates setting.now.universe (name_at setting.now.universe label))) }
+{
+    match only_class(alloc, setting, number, label, name)? {
+        Some(class) => if_followed(alloc, setting, line, number, label, class, name, wanted),
+        None => first_of_all(alloc, setting, line, number, label, name, wanted),
+    }
+}
+
+/// The same where the label can be followed with no other candidate than that of a class, which alone is asked.
+fn if_followed(
+    alloc: Global,
+    setting: &Setting,
+    line: &Line,
+    number: u32,
+    label: u32,
+    class: u32,
+    name: &Text,
+    wanted: WantedPresence,
+) -> Result<Option<u32>, Memory>
+    requires way { IsWay (rule_trees setting.now.rules) number line.now }
+    requires label { label < length setting.now.universe.named }
+    requires name { name.now ≡ name_at setting.now.universe label }
+    requires class { IsClass setting.now.universe label (Some class) }
+    requires only { (own : RuleTree) → slice_get (rule_trees setting.now.rules) number ≡ Some own → IsOnly setting.now.universe (rule_trees setting.now.rules) number own label class }
+    ensures class { IfOk result (IsClass setting.now.universe label) }
+    ensures text { (own : RuleTree) → slice_get (rule_trees setting.now.rules) number ≡ Some own → IfOk result (λ class. option_map (text_at setting.now.universe label) class ≡ find (is_followed setting.now.universe (rule_trees setting.now.rules) number own wanted (name_at setting.now.universe label)) (candidates setting.now.universe (name_at setting.now.universe label))) }
+{
+    let text = setting.universe().candidate(label, class);
+    let fits = is_followed(alloc, setting, line, number, name, text, wanted)?;
+    if fits { Ok(Some(class)) } else { Ok(None) }
+}
+
+/// The same where each candidate is asked in turn.
+fn first_of_all(
     alloc: Global,
     setting: &Setting,
     line: &Line,

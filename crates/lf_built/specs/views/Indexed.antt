@@ -16,7 +16,9 @@ use Rattle.lf_forks.specs.views.Holding.{Forks, test_of}
 use Rattle.lf_built.specs.declared.prepared.Prepared.{Prepared}
 use Rattle.lf_built.specs.views.Marking.{marks_at, set_by}
 use Rattle.lf_built.specs.views.PartRows.{part_rows}
+use Rattle.lf_built.specs.declared.unsaid.SoughtName.{SoughtName}
 use Rattle.lf_built.specs.views.RuleRows.{own_or}
+use Rattle.lf_built.specs.views.Unsaid.{AreSought}
 
 -- what it is of
 
@@ -41,6 +43,7 @@ pub record IsPrepared (p : Prepared) : Type 0 where
   pub sources : IsSourcesOf (trees_of p) p.sources.now
   pub names : p.names.items ≡ labels_in (universe_of p)
   pub parts : p.parts.items ≡ map (λ (r : RuleTree). part_rows (universe_of p) (env_of p) (forks_of p) (nodes r.expr)) (trees_of p)
+  pub sought : AllZip (λ (r : RuleTree) (found : List (Option SoughtName)). AreSought (universe_of p) (trees_of p) (nodes r.expr) found) (trees_of p) p.sought.items
   pub marks : p.marks.items ≡ map (λ (r : RuleTree). map (marks_at (labels_in (universe_of p))) (nodes r.expr)) (trees_of p)
   pub set : p.set.items ≡ map (set_by (labels_in (universe_of p))) (trees_of p)
   pub rows : AllZip (λ (r : RuleTree) (own : Option Sets). own_or own (row_of (universe_of p) (env_of p) r.expr) ≡ rule_row (universe_of p) (env_of p) r) (trees_of p) p.rows.items

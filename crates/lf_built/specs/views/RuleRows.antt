@@ -11,6 +11,7 @@ use Rattle.lf_semantics.specs.Listing.{Listing}
 use Rattle.lf_semantics.specs.RowTable.{Environment, row_of}
 use Rattle.lf_built.specs.declared.row_making.RuleRow.{RuleRow}
 use Rattle.lf_built.specs.views.PartRows.{part_rows}
+use Rattle.lf_built.specs.views.Unsaid.{AreSought}
 
 -- the row of a rule: that of its whole expression where it isn't told
 abbrev pub own_or : Option Sets → Sets → Sets
@@ -18,12 +19,13 @@ own_or None whole = whole
 own_or (Some row) whole = row
 
 module _ (u : Listing) (e : Environment) (forks : Forks) where
-  -- this is told of a rule
-  pub record IsRowOf (r : RuleTree) (row : RuleRow) : Type 0 where
+  -- this is told of one of some rules
+  pub record IsRowOf (rules : List RuleTree) (r : RuleTree) (row : RuleRow) : Type 0 where
     pub parts : row.parts ≡ part_rows u e (has_passing (test_of forks)) (nodes r.expr)
+    pub names : AreSought u rules (nodes r.expr) row.names
     pub own : own_or row.own (row_of u e r.expr) ≡ rule_row u e r
     pub recorded : row.recorded ≡ recorded_row u e r
 
   -- this is told of the rules, of each in its place
   abbrev pub AreRowsOf : List RuleTree → List RuleRow → Type 0
-  AreRowsOf rules rows = AllZip IsRowOf rules rows
+  AreRowsOf rules rows = AllZip (IsRowOf rules) rules rows

@@ -18,7 +18,7 @@ use Rattle.lf_judge.specs.views.AtHand.{TellsFindingsAt, rules_of_hand}
 pub record IsRowAt (h : AtHand) (forks : Forks) (number : ℕ) (row : RuleRow) : Type 0 where
   pub rule : RuleTree
   pub stands : slice_get (rules_of_hand h) number ≡ Some rule
-  pub told : IsRowOf h.universe.now h.env.now forks rule row
+  pub told : IsRowOf h.universe.now h.env.now forks (rules_of_hand h) rule row
 
 -- this is found of the rule with a number: the verdict on it, and its findings
 pub record IsFoundAt (h : AtHand) (number : ℕ) (found : RuleFound) : Type 0 where

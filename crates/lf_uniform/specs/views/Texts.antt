@@ -1,5 +1,5 @@
 -- Candidates with which a label can be followed, as the code looks for them.
-use Rattle.std.specs.Prelude.{ℕ, Bool, true, false, not, List, []}
+use Rattle.std.specs.Prelude.{◌≡◌, ℕ, Bool, true, false, not, List, []}
 use Rattle.std.specs.List.{find}
 use Rattle.std.specs.Option.{option_map_or}
 use Rattle.std.specs.Str.{bytes_eq}
@@ -9,6 +9,7 @@ use Rattle.lf_semantics.specs.Listing.{Listing}
 use Rattle.lf_trials.specs.Candidates.{candidates}
 use Rattle.lf_trials.specs.Follow.{Followed, follow_from}
 use Rattle.lf_trials.specs.Given.{Given}
+use Rattle.lf_candidates.specs.views.ClassTexts.{name_at, text_at}
 use Rattle.lf_uniform.specs.declared.texts.WantedPresence.{WantedPresence}
 use Rattle.lf_uniform.specs.declared.texts.WantedPresence.TheVariants.{Anything, Present, Absent}
 
@@ -31,3 +32,7 @@ module _ (u : Listing) (rules : List RuleTree) (i : ℕ) (own : RuleTree) where
   -- the first candidate of each label with which it can be followed
   abbrev pub first_texts : Given
   first_texts name = find (is_followed Anything name) (candidates u name)
+
+  -- the label can be followed with no other text than that of a class
+  abbrev pub IsOnly : ℕ → ℕ → Type 0
+  IsOnly label class = (wanted : WantedPresence) (text : Bytes) → is_followed wanted (name_at u label) text ≡ true → text ≡ text_at u label class

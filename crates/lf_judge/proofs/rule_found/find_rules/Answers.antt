@@ -1,7 +1,7 @@
 use Rattle.std.proofs.Common.{subst, sym}
 use Rattle.lf_ast.specs.Rules.{rule_trees}
 use Rattle.lf_checks.specs.declared.rule_dependency.RecordedNames.{RecordedNames}
-use Rattle.lf_checks.specs.views.Checked.{Checked}
+use Rattle.lf_checks.specs.views.Checked.{CheckerView}
 use Rattle.lf_checks.specs.views.Recorded.{AreOf}
 use Rattle.lf_deps.specs.views.Sources.{IsSourcesOf, Sources}
 use Rattle.lf_judge.specs.declared.at_hand.AtHand.{AtHand}
@@ -10,7 +10,7 @@ use Rattle.lf_judge.proofs.rule_found.find_rules.Goals as goal
 
 -- the names that the checker has are those of the rules
 are_of : (h : AtHand) (recorded : RecordedNames) → IsReady h → AreOf (rule_trees h.checker.now.rules) recorded → AreOf (rules_of_hand h) recorded
-are_of h recorded ready are = subst (λ (k : Checked). AreOf (rule_trees k.rules) recorded) ready.checker are
+are_of h recorded ready are = subst (λ (k : CheckerView). AreOf (rule_trees k.rules) recorded) ready.checker are
 
 pub of-requires : goal.of-requires
 of-requires g c =

@@ -19,10 +19,10 @@ returns g c =
     let hand = c.args.hand.now in
     let forks = c.args.forks.now in
     IfOk-weaker c.map_pieces.result _ _
-    (λ rows is. side_by_side (IsRowOf hand.universe.now hand.env.now forks) (rules_of_hand hand) rows (is.count ∙ c.len.ensures ∙ sym (length-map hand.rules.now rule_tree))
+    (λ rows is. side_by_side (IsRowOf hand.universe.now hand.env.now forks (rules_of_hand hand)) (rules_of_hand hand) rows (is.count ∙ c.len.ensures ∙ sym (length-map hand.rules.now rule_tree))
     (λ i r row at there.
     let own = each_value _ _ _ (IsRowAt hand forks) (λ k x h gave. search rules) rows is i row there in
-    subst (λ (t : RuleTree). IsRowOf hand.universe.now hand.env.now forks t row) (one_at (rules_of_hand hand) i own.rule r own.stands at) own.told))
+    subst (λ (t : RuleTree). IsRowOf hand.universe.now hand.env.now forks (rules_of_hand hand) t row) (one_at (rules_of_hand hand) i own.rule r own.stands at) own.told))
     c.map_pieces.ensures.each
 
 pub map_pieces-requires-sync-F : goal.map_pieces-requires-sync-F

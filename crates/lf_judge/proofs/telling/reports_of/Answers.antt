@@ -36,7 +36,7 @@ pub loop-next-init : goal.loop-next-init
 loop-next-init c =
     let hand = c.args.hand.now in
     let firsts = c.args.firsts.now in
-    let none : c.from_vec-told.result ≡ [] = c.from_vec-told.ensures ∙ c.in_ok-room.ensures.items in
+    let none : c.in_ok-told.told ≡ [] = c.in_ok-told.ensures in
     let taken = c.in_ok-taken.taken in
     record {
       count = omega (arith, ap length none, ap length c.in_ok-taken.ensures, length-reverse c.args.found, c.requires.found.count);

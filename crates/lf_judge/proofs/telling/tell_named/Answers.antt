@@ -1,6 +1,6 @@
 use Rattle.std.proofs.Common.{◌∙◌, ap, subst}
 use Rattle.lf_ast.specs.Rules.{rule_trees}
-use Rattle.lf_checks.specs.views.Checked.{Checked}
+use Rattle.lf_checks.specs.views.Checked.{CheckerView}
 use Rattle.lf_semantics.specs.Environments.{IsLeast}
 use Rattle.lf_semantics.specs.Listing.{Listing}
 use Rattle.lf_judge.proofs.telling.tell_named.Goals as goal
@@ -10,7 +10,7 @@ tell_at_hand-requires-clause-ready g c κs within =
     let rules = c.args.rules.now in
     let env = c.args.env.now in
     let P : Listing → Type 0 = λ u. IsLeast u (rule_trees rules) env in
-    let checked : Listing → Checked = λ u. record { universe = u; env = env; rules = rules } in
+    let checked : Listing → CheckerView = λ u. record { universe = u; env = env; rules = rules } in
     record {
       few = c.requires.few;
       stand = c.requires.stand;

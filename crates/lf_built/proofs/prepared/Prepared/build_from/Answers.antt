@@ -18,6 +18,9 @@ select-requires-clause-names c n is =
     let known = subst (λ (t : Tree). Covers (universe_of p) t) s.2 (covered p c.requires.known c.args.spot.now c.requires.spot) in
     selected_name_known (universe_of p) c.requires.known.within c.in-Some.name.now c.in-Some.matchers.now s.0 s.1 n known (sym c.selected_name-name.ensures ∙ is)
 
+pub select-requires-clause-unnamed : goal.select-requires-clause-unnamed
+select-requires-clause-unnamed c is = (c.in-Some.name.now, c.in-Some.ensures.some, sym c.selected_name-name.ensures ∙ is)
+
 pub returns-in-Some-clause-goes : goal.returns-in-Some-clause-goes
 returns-in-Some-clause-goes c whole D stands left =
     let p = c.args.self.now in

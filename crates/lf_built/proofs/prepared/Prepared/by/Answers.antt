@@ -14,6 +14,8 @@ use Rattle.lf_built.specs.declared.row_making.RuleRow.{RuleRow}
 use Rattle.lf_built.specs.views.Marking.{marks_at, set_by}
 use Rattle.lf_built.specs.views.PartRows.{part_rows}
 use Rattle.lf_built.specs.views.RuleRows.{own_or}
+use Rattle.lf_built.specs.declared.unsaid.SoughtName.{SoughtName}
+use Rattle.lf_built.specs.views.Unsaid.{AreSought}
 use Rattle.lf_built.proofs.RowsApart.{along, images}
 use Rattle.lf_built.proofs.prepared.Prepared.by.Goals as goal
 
@@ -24,6 +26,7 @@ returns c =
     let forks = c.args.forks.now in
     let trees : List RuleTree = rule_trees c.args.rules.now in
     let IsOwn : RuleTree → Option Sets → Type 0 = λ (r : RuleTree) (own : Option Sets). own_or own (row_of u env r.expr) ≡ rule_row u env r in
+    let Found : RuleTree → List (Option SoughtName) → Type 0 = λ (r : RuleTree) (found : List (Option SoughtName)). AreSought u trees (nodes r.expr) found in
     record {
       universe = refl;
       env = refl;
@@ -36,6 +39,7 @@ returns c =
         sources = c.requires.sources;
         names = c.in_ok-names.ensures;
         parts = c.in_ok-parts.ensures.parts ∙ along (λ (row : RuleRow). row.parts) (λ (r : RuleTree). part_rows u env (has_passing (test_of forks)) (nodes r.expr)) trees c.args.rows c.requires.rows (λ r row is. is.parts);
+        sought = subst (AllZip Found trees) (sym c.in_ok-parts.ensures.sought) (images Found (λ (row : RuleRow). row.names) trees c.args.rows c.requires.rows (λ r row is. is.names));
         marks =
             c.in_ok-marks.ensures
             ∙ ap (λ (names : List Bytes). map (λ (r : RuleTree). map (marks_at names) (nodes r.expr)) (rule_trees c.as_slice-all.result.now)) (c.as_slice-labels.ensures.value ∙ c.in_ok-names.ensures)

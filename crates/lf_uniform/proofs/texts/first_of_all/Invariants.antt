@@ -3,7 +3,7 @@ use Rattle.std.specs.Prelude.{slice_get}
 use Rattle.lf_ast.specs.Rules.{RuleTree, rule_trees}
 use Rattle.lf_candidates.specs.views.ClassTexts.{name_at, text_at}
 use Rattle.lf_uniform.specs.views.Texts.{is_followed}
-use Rattle.lf_uniform.proofs.texts.first_followed.Given as goal
+use Rattle.lf_uniform.proofs.texts.first_of_all.Given as goal
 
 abbrev pub invariant-loop-class : goal.invariant-loop-class
 invariant-loop-class l =
