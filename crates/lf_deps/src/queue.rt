@@ -1,5 +1,5 @@
 //! The rules left to be ordered, and which of them wait.
-ghost use Rattle.std.specs.Prelude.{◌≡◌, ◌≤◌, ◌<◌, ◌+◌, ◌++◌, ℕ, true, [], ◌∷◌, length, slice_index_or, slice_set, IfOk, OnOk};
+ghost use Rattle.std.specs.Prelude.{◌≡◌, ◌≤◌, ◌<◌, ◌+◌, ℕ, true, [], ◌∷◌, length, slice_index_or, slice_set, IfOk, OnOk};
 ghost use Rattle.std.specs.List.{Contains, range_with_len};
 ghost use Rattle.lf_deps.specs.views.Queue.{Chooses, CountsDown, IsLeft, IsQueue, IsReady, IsStart, IsWhole, Settles, TakesNext, occurs, occurs_in};
 
@@ -176,17 +176,7 @@ fn count_down(
 {
     counts[source] -= 1;
     if counts[source] == 0 {
-        append(due, listed.at(source))?;
-    }
-    Ok(())
-}
-
-/// Puts numbers behind others.
-fn append(list: &mut Seq<usize>, numbers: &[usize]) -> Result<(), Memory>
-    ensures { OnOk result (list.new ≡ list.old ++ numbers.now) }
-{
-    for number in numbers {
-        list.push(*number)?;
+        due.extend_from_slice(listed.at(source))?;
     }
     Ok(())
 }

@@ -47,13 +47,3 @@ pub(crate) fn push_if(
         Ok(())
     }
 }
-
-/// Puts open constructs behind others.
-pub(crate) fn push_all(found: &mut Seq<OpenAt>, more: &[OpenAt]) -> Result<(), Memory>
-    ensures { OnOk result (found.new ≡ found.old ++ more.now) }
-{
-    for item in more {
-        found.push(*item)?;
-    }
-    Ok(())
-}

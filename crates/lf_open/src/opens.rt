@@ -7,7 +7,6 @@ ghost use Rattle.lf_open.specs.OpenList.{AreOpen, AreOpenOf};
 ghost use Rattle.lf_open.specs.views.Known.{IsKnown, rules_of};
 ghost use Rattle.lf_open.specs.views.Opens.{AreMarked, AreOpens, AreReads, AreReady, IsListOf, rules_of_opens};
 
-use crate::adding::push_all;
 use crate::known::RuleReadings;
 use crate::nodes::open_in;
 use crate::open_at::OpenAt;
@@ -142,7 +141,7 @@ fn push_others(
 {
     for number in numbers {
         let own = other_list(known, alloc, *number, i)?;
-        push_all(found, own.as_slice())?;
+        found.extend_from_slice(own.as_slice())?;
     }
     Ok(())
 }

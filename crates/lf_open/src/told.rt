@@ -2,7 +2,6 @@
 ghost use Rattle.std.specs.Prelude.{◌≡◌, ◌++◌, IfOk};
 ghost use Rattle.lf_open.specs.views.Told.{appended, beside, gathered, nothing};
 
-use crate::adding::push_all;
 use crate::number_set::NumberSet;
 use crate::open_at::OpenAt;
 use lf_base::{Memory, Seq};
@@ -88,6 +87,6 @@ fn with(many: Seq<OpenAt>, few: &[OpenAt]) -> Result<Seq<OpenAt>, Memory>
     ensures { IfOk result (λ found. found ≡ many ++ few.now) }
 {
     let mut found = many;
-    push_all(&mut found, few)?;
+    found.extend_from_slice(few)?;
     Ok(found)
 }

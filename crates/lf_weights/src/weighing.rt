@@ -44,7 +44,7 @@ fn lists_of_nexts(alloc: Global, components: &Components) -> Result<Seq<Seq<usiz
     requires { length components.now.nexts ≡ length components.now.members }
     ensures { IfOk result (λ lists. lists ≡ components.now.nexts) }
 {
-    let mut lists = Seq::new(alloc);
+    let mut lists = Seq::with_capacity(alloc, components.count())?;
     for number in 0..components.count() {
         lists.push(list_of(alloc, components.nexts(number))?)?;
     }
@@ -55,7 +55,7 @@ fn lists_of_nexts(alloc: Global, components: &Components) -> Result<Seq<Seq<usiz
 fn list_of(alloc: Global, set: &BTreeSet<usize>) -> Result<Seq<usize>, Memory>
     ensures { IfOk result (λ list. list ≡ set.now.keys) }
 {
-    let mut list = Seq::new(alloc);
+    let mut list = Seq::with_capacity(alloc, set.len())?;
     for number in set {
         list.push(*number)?;
     }

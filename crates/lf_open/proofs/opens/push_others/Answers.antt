@@ -16,5 +16,5 @@ loop-number-preserved c =
     let numbers : List ℕ = c.args.numbers.now in
     let k : ℕ = c.loop-number.number-index in
     let found : List OpenAt = c.loop-number.found in
-    one_more (rules_of c.args.known.now) c.args.i k 0 (get_or numbers k 0) numbers c.args.found.now found c.in_ok-own.own c.push_all.new.found c.loop-number-test.true refl c.loop-number.invariant c.in_ok-own.ensures
-    (c.in_ok-push_all.ensures ∙ ap (λ (l : List OpenAt). found ++ l) c.as_slice.ensures)
+    one_more (rules_of c.args.known.now) c.args.i k 0 (get_or numbers k 0) numbers c.args.found.now found c.in_ok-own.own c.extend_from_slice.new.self c.loop-number-test.true refl c.loop-number.invariant c.in_ok-own.ensures
+    (c.in_ok-extend_from_slice.ensures.ok ∙ ap (λ (l : List OpenAt). found ++ l) c.as_slice.ensures)
