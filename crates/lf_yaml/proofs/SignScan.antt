@@ -1,5 +1,6 @@
 -- Going over a key byte by byte, to the `:` that ends it.
-use Rattle.std.proofs.Common.{◌≡◌, ℕ, ◌+◌, ◌<◌, ◌≤◌, Bool, true, false, eqb, List, ◌∷◌, Option, Some, None, length, get_or, take, drop, refl, ap, sym, ◌∙◌, ◌&&◌, subst}
+use Rattle.std.proofs.Common.{◌≡◌, ℕ, ◌+◌, ◌<◌, ◌≤◌, Bool, true, false, eqb, List, ◌∷◌, Option, Some, None, length, get_or, take, drop, refl, ap, arith, sym, ◌∙◌, ◌&&◌, subst}
+use Rattle.std.proofs.lemmas.Bool.{ne_eqb}
 use Rattle.std.proofs.lemmas.List.{append-nil, drop_all}
 use Rattle.lf_scalar.specs.Cells.{Cell, cell, cells}
 use Rattle.lf_scalar.specs.Lines.{is_blank, begins_with}
@@ -40,6 +41,12 @@ module _ (flow : Bool) (at : ℕ) (text : List ℕ) (i : ℕ) (lt : i < length t
   pub key-goes : (eqb (get_or text i 0) 58 && before_blank following) ≡ false → stops_of flow here ≡ false → (is_blank here && begins_with 35 following) ≡ false → key_from flow at text i ≡ key_from flow at text (i + 1)
   unfolding key_in
   key-goes e s b = first ∙ rw (e, s, b, cells-take at text i lt) (ahead-behind (cells at (take i text)) here (key_in (stops_of flow) before_blank following))
+
+  -- a byte behind `:` neither ends a key of a block mapping nor stops it
+  pub key-passed : flow ≡ false → 58 < get_or text i 0 → key_from flow at text i ≡ key_from flow at text (i + 1)
+  key-passed f above =
+      let b : ℕ = get_or text i 0 in
+      key-goes (rw (ne_eqb b 58 (λ e. omega (arith, e, above))) refl) (rw f refl) (rw (ne_eqb b 32 (λ e. omega (arith, e, above)), ne_eqb b 9 (λ e. omega (arith, e, above))) refl)
 
 pub key-end : (flow : Bool) (at : ℕ) (text : List ℕ) (i : ℕ) → length text ≤ i → key_from flow at text i ≡ None
 unfolding key_in

@@ -85,10 +85,14 @@ fn is_control_at(bytes: &[u8], offset: usize) -> bool
     requires { offset < length bytes.now }
     ensures { result ≡ is_wrong_control (drop offset bytes.now) }
 {
+    // Nearly all characters are printable, and are told by two comparisons.
+    if bytes[offset] >= 0x20 {
+        return bytes[offset] == 0x7f;
+    }
     match bytes[offset] {
         b'\t' | b'\n' => false,
         b'\r' => offset + 1 == bytes.len() || bytes[offset + 1] != b'\n',
-        byte => byte < 0x20 || byte == 0x7f,
+        _ => true,
     }
 }
 

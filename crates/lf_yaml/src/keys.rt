@@ -1,5 +1,5 @@
 //! Keys without quotes: where their `:` stands; and which keys are left out.
-ghost use Rattle.std.specs.Prelude.{true, ◌≡◌, ◌&&◌, eqb, cond, ℕ, ◌+◌, ◌<◌, ◌≤◌, ◌^◌, length, get_or, IfSome, option_map};
+ghost use Rattle.std.specs.Prelude.{true, false, ◌≡◌, ◌&&◌, not, eqb, nat_lt, cond, ℕ, ◌+◌, ◌<◌, ◌≤◌, ◌^◌, length, get_or, IfSome, option_map};
 ghost use Rattle.lf_scalar.specs.Cells.{cell, cells};
 ghost use Rattle.lf_scalar.specs.Lines.{is_blank, begins_with};
 ghost use Rattle.lf_scalar.specs.Plain.{before_blank};
@@ -55,6 +55,15 @@ fn comments_here(byte: u8, rest: &[u8]) -> bool
     is_blank_byte(byte) && begins_hash(rest)
 }
 
+/// Whether a key goes on with a byte whatever stands behind it, as it does with all letters of a block mapping. What ends or stops it there is `:` or comes before that.
+fn goes_on(flow: bool, byte: u8) -> bool
+    ensures value { result ≡ (not flow && nat_lt 58 byte) }
+    ensures stops { result ≡ true → flow ≡ false }
+    ensures behind { result ≡ true → 58 < byte }
+{
+    !flow && b':' < byte
+}
+
 /// The place of the `:` that ends a key without quotes, in a flow mapping or a block mapping. None where a comment, a sign of flow collections or the line's end comes first.
 pub fn find_sign(flow: bool, text: &[u8], at: u32) -> Option<usize>
     ensures within { IfSome result (λ k. k < length text.now) }
@@ -62,6 +71,9 @@ pub fn find_sign(flow: bool, text: &[u8], at: u32) -> Option<usize>
     ensures value { option_map (split_of at text.now) result ≡ key_in (stops_of flow) before_blank (cells at text.now) }
 {
     for (i, byte) in text.iter().enumerate() {
+        if goes_on(flow, *byte) {
+            continue;
+        }
         let rest = past(text, i + 1);
         if ends_here(*byte, rest) {
             return Some(i);
