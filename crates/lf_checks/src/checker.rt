@@ -14,7 +14,7 @@ ghost use Rattle.lf_checks.specs.Files.{File, StandIn};
 ghost use Rattle.lf_checks.specs.Findings.{AreFindingsIn, IsFindingIn};
 ghost use Rattle.lf_checks.specs.views.Checked.{IsOfParts, IsOfRule};
 ghost use Rattle.lf_checks.specs.views.Recorded.{AreOf, AreOfSome};
-ghost use Rattle.lf_semantics.specs.RowTable.{Environment, row_of};
+ghost use Rattle.lf_semantics.specs.RowTable.{Environment, row_of, scraped_row};
 ghost use Rattle.lf_checks.specs.views.Sought.{seeks_labels};
 ghost use Rattle.lf_checks.specs.views.Shown.{AreNumbered, Lists, ListsAlone, all_shown};
 
@@ -32,8 +32,8 @@ use lf_ast::walk::nodes_of;
 use lf_ast::{Expr, Finding, Rule};
 use lf_base::{Memory, Seq};
 use lf_classes::{Row, Universe};
-use lf_fix::{rule_row, rule_row_by};
-use lf_flow::Env;
+use lf_fix::{rule_row_by, rule_row_with};
+use lf_flow::{Env, scraped_if_read};
 use std::alloc::Global;
 use std::marker::Model;
 
@@ -45,13 +45,16 @@ pub struct Checker<'a> {
     rules: &'a Seq<Rule>,
     recorded: RecordedNames,
     firsts: Vec<Option<u32>>,
+    scraped: Option<Row>,
 }
 
 impl<'a> Model for Checker<'a> {
     ghost use Rattle.std.specs.Coded.{codes};
+    ghost use Rattle.std.specs.Prelude.{◌≡◌, IfSome};
     ghost use Rattle.lf_ast.specs.Rules.{rule_trees};
     ghost use Rattle.lf_ast.specs.contracts.rule.Rule as rule;
     ghost use Rattle.lf_semantics.specs.Listing.{IsListing};
+    ghost use Rattle.lf_semantics.specs.RowTable.{scraped_row};
     ghost use Rattle.lf_checks.specs.views.Checked.{CheckerView};
     ghost use Rattle.lf_checks.specs.views.Duplicates.{AreFirsts};
     ghost use Rattle.lf_checks.specs.views.Recorded.{AreOf};
@@ -62,7 +65,7 @@ impl<'a> Model for Checker<'a> {
 
     ghost view = { λ c. record { universe = c.universe.now; env = c.env.now; rules = c.rules.now } };
 
-    ghost invariant = { λ c. IsListing c.universe.now × AreOf (rule_trees c.rules.now) c.recorded × AreFirsts (rule_trees c.rules.now) c.firsts.items };
+    ghost invariant = { λ c. IsListing c.universe.now × AreOf (rule_trees c.rules.now) c.recorded × AreFirsts (rule_trees c.rules.now) c.firsts.items × IfSome c.scraped (λ row. row ≡ scraped_row c.universe.now c.env.now) };
 }
 
 impl<'a> Checker<'a> {
@@ -93,12 +96,14 @@ impl<'a> Checker<'a> {
         // For what its contract says of the universe.
         let _labels = universe.labels();
         let firsts = first_rules(alloc, rules, recorded.sources())?;
+        let scraped = scraped_if_read(alloc, universe, env, recorded.sources())?;
         Ok(Checker {
             universe,
             env,
             rules,
             recorded,
             firsts,
+            scraped,
         })
     }
 
@@ -147,8 +152,9 @@ impl<'a> Checker<'a> {
         let rule = self.rules.get(i as usize);
         let nodes = nodes_of(alloc, &rule.expr)?;
         let exprs = nodes.as_slice();
-        let rows = sought_rows(alloc, self.universe, self.env, rule, exprs)?;
-        let row = own_row(alloc, self.universe, self.env, rule, &rows)?;
+        let scraped = self.scraped.as_ref();
+        let rows = sought_rows(alloc, self.universe, self.env, scraped, rule, exprs)?;
+        let row = own_row(alloc, self.universe, self.env, scraped, rule, &rows)?;
         let own = of_rule(alloc, self.universe, &row, rule)?;
         let parts = of_parts(alloc, self.universe, &self.recorded, rule, exprs, rows)?;
         let same = rule_duplicate(alloc, self.firsts[i as usize], rule)?;
@@ -163,16 +169,18 @@ fn own_row(
     alloc: Global,
     universe: &Universe,
     env: &Env,
+    scraped: Option<&Row>,
     rule: &Rule,
     rows: &Option<Vec<Row>>,
 ) -> Result<Row, Memory>
     requires env { IsEnvironment universe.now env.now }
+    requires scraped { IfSome scraped (λ row. row.now ≡ scraped_row universe.now env.now) }
     requires rows { IfSome rows.now (λ all. all.items ≡ map (row_of universe.now env.now) (nodes (rule_tree rule.now).expr)) }
     ensures { IfOk result (λ row. row ≡ row_of_rule universe.now env.now (rule_tree rule.now)) }
 {
     match rows {
         Some(rows) => rule_row_by(alloc, universe, rule, &rows[0]),
-        None => rule_row(alloc, universe, env, rule),
+        None => rule_row_with(alloc, universe, env, scraped, rule),
     }
 }
 

@@ -14,7 +14,7 @@ ghost use Rattle.lf_semantics.specs.ClassRows.{HasShape};
 ghost use Rattle.lf_semantics.specs.Environments.{IsEnvironment};
 ghost use Rattle.lf_semantics.specs.Listing.{IsListing};
 ghost use Rattle.lf_semantics.specs.Parts.{operand_place, type_by_form};
-ghost use Rattle.lf_semantics.specs.RowTable.{Environment, row_of};
+ghost use Rattle.lf_semantics.specs.RowTable.{Environment, row_of, scraped_row};
 ghost use Rattle.lf_checks.specs.MatchLabel.{IsFound};
 ghost use Rattle.lf_checks.specs.views.Adding.{Adds};
 ghost use Rattle.lf_checks.specs.views.Conditions.{condition_of};
@@ -28,19 +28,22 @@ use crate::telling::tell_if;
 use lf_ast::{Agg, Expr, Finding, Function, Group, Grouping, Matching, Name, Rule, is_vector};
 use lf_base::{Memory, Seq};
 use lf_classes::{Row, Universe};
-use lf_flow::{Env, part_rows};
+use lf_flow::{Env, part_rows_with};
 use lf_parts::by_parts;
 use std::alloc::Global;
 
-/// The rows of a rule's expression and of all parts in it, where one of these parts seeks a label. Elsewhere they aren't made.
+/// The rows of a rule's expression and of all parts in it, where one of these parts seeks a label. Elsewhere they aren't made. The row of all scraped series is taken where it
+/// is at hand.
 pub(crate) fn sought_rows(
     alloc: Global,
     universe: &Universe,
     env: &Env,
+    scraped: Option<&Row>,
     rule: &Rule,
     parts: &[&Expr],
 ) -> Result<Option<Vec<Row>>, Memory>
     requires env { IsEnvironment universe.now env.now }
+    requires scraped { IfSome scraped (λ row. row.now ≡ scraped_row universe.now env.now) }
     requires parts { trees_at parts.now ≡ nodes (rule_tree rule.now).expr }
     ensures some { IfOk result (λ rows. IfSome rows (λ all. all.items ≡ map (row_of universe.now env.now) (nodes (rule_tree rule.now).expr))) }
     ensures none { IfOk result (λ rows. IfNone rows (list_any (λ part. seeks_labels (tree part.now)) parts.now ≡ false)) }
@@ -48,7 +51,7 @@ pub(crate) fn sought_rows(
     if !any_seeks(parts) {
         return Ok(None);
     }
-    let rows = part_rows(alloc, universe, env, &rule.expr)?;
+    let rows = part_rows_with(alloc, universe, env, scraped, &rule.expr)?;
     Ok(Some(rows))
 }
 

@@ -1,5 +1,5 @@
 //! The rows of rules, and of what they record.
-ghost use Rattle.std.specs.Prelude.{◌≡◌, List, IfOk};
+ghost use Rattle.std.specs.Prelude.{◌≡◌, List, IfOk, IfSome};
 ghost use Rattle.lf_ast.specs.Functions.{function_named};
 ghost use Rattle.lf_ast.specs.Rules.{RuleTree, rule_tree};
 ghost use Rattle.lf_ast.specs.Selectors.{metric};
@@ -8,13 +8,13 @@ ghost use Rattle.lf_semantics.specs.ClassRows.{HasShape};
 ghost use Rattle.lf_semantics.specs.Environments.{CoversRules, IsEnvironment, IsLeast, recorded_row as row_recorded, rule_row as row_of_rule, with_text, with_texts};
 ghost use Rattle.lf_semantics.specs.Laws.{RepresentsRule, SetNoNames};
 ghost use Rattle.lf_semantics.specs.Listing.{IsListing};
-ghost use Rattle.lf_semantics.specs.RowTable.{Environment, row_of};
+ghost use Rattle.lf_semantics.specs.RowTable.{Environment, row_of, scraped_row};
 ghost use Rattle.lf_semantics.specs.Parts.{given_by, is_evaluated, type_by_form};
 
 use lf_ast::{Expr, Function, Rule, RuleLabel};
 use lf_base::Memory;
 use lf_classes::{Row, Universe};
-use lf_flow::{Env, flow};
+use lf_flow::{Env, flow_with};
 use lf_nodes::is_rule_type;
 use std::alloc::Global;
 
@@ -26,18 +26,41 @@ pub fn rule_row(alloc: Global, universe: &Universe, env: &Env, rule: &Rule) -> R
     ensures row { IfOk result (λ row. row ≡ row_of_rule universe.now env.now (rule_tree rule.now)) }
     ensures represents { (rules : List RuleTree) → CoversRules universe.now rules → SetNoNames rules → IsLeast universe.now rules env.now → IfOk result (RepresentsRule universe.now rules (rule_tree rule.now)) }
 {
+    rule_row_with(alloc, universe, env, None, rule)
+}
+
+/// As `rule_row`, by the row of all scraped series where it is at hand.
+pub fn rule_row_with(
+    alloc: Global,
+    universe: &Universe,
+    env: &Env,
+    scraped: Option<&Row>,
+    rule: &Rule,
+) -> Result<Row, Memory>
+    requires env { IsEnvironment universe.now env.now }
+    requires scraped { IfSome scraped (λ row. row.now ≡ scraped_row universe.now env.now) }
+    ensures row { IfOk result (λ row. row ≡ row_of_rule universe.now env.now (rule_tree rule.now)) }
+    ensures represents { (rules : List RuleTree) → CoversRules universe.now rules → SetNoNames rules → IsLeast universe.now rules env.now → IfOk result (RepresentsRule universe.now rules (rule_tree rule.now)) }
+{
     // For what its contract says of the universe.
     let _labels = universe.labels();
-    row_in(alloc, universe, env, rule)
+    row_in(alloc, universe, env, scraped, rule)
 }
 
 /// The row of a rule in an environment.
-fn row_in(alloc: Global, universe: &Universe, env: &Env, rule: &Rule) -> Result<Row, Memory>
+fn row_in(
+    alloc: Global,
+    universe: &Universe,
+    env: &Env,
+    scraped: Option<&Row>,
+    rule: &Rule,
+) -> Result<Row, Memory>
     requires env { IsEnvironment universe.now env.now }
+    requires scraped { IfSome scraped (λ row. row.now ≡ scraped_row universe.now env.now) }
     ensures { IfOk result (λ row. row ≡ row_of_rule universe.now env.now (rule_tree rule.now)) }
 {
     if is_evaluated(&rule.expr) {
-        flow(alloc, universe, env, &rule.expr)
+        flow_with(alloc, universe, env, scraped, &rule.expr)
     } else {
         Row::empty(alloc, universe)
     }
@@ -69,7 +92,23 @@ pub fn recorded_row(
     requires env { IsEnvironment universe.now env.now }
     ensures { IfOk result (λ row. row ≡ row_recorded universe.now env.now (rule_tree rule.now)) }
 {
-    let mut row = row_in(alloc, universe, env, rule)?;
+    recorded_row_with(alloc, universe, env, None, rule)
+}
+
+/// As `recorded_row`, by the row of all scraped series where it is at hand.
+pub(crate) fn recorded_row_with(
+    alloc: Global,
+    universe: &Universe,
+    env: &Env,
+    scraped: Option<&Row>,
+    rule: &Rule,
+) -> Result<Row, Memory>
+    requires listing { IsListing universe.now }
+    requires env { IsEnvironment universe.now env.now }
+    requires scraped { IfSome scraped (λ row. row.now ≡ scraped_row universe.now env.now) }
+    ensures { IfOk result (λ row. row ≡ row_recorded universe.now env.now (rule_tree rule.now)) }
+{
+    let mut row = row_in(alloc, universe, env, scraped, rule)?;
     make_recorded(universe, &mut row, rule);
     Ok(row)
 }

@@ -1,21 +1,21 @@
 //! The least environment, by rounds.
-ghost use Rattle.std.specs.Prelude.{◌≡◌, ◌<◌, length, IfOk};
+ghost use Rattle.std.specs.Prelude.{◌≡◌, ◌<◌, length, IfOk, IfSome};
 ghost use Rattle.lf_ast.specs.Rules.{rule_trees};
 ghost use Rattle.lf_semantics.specs.Environments.{CoversRules, IsEnvironmentOf, IsLeast};
 ghost use Rattle.lf_semantics.specs.Listing.{IsListing};
 ghost use Rattle.lf_deps.specs.Ordering.{IsOrder};
 ghost use Rattle.lf_deps.specs.views.Sources.{IsSourcesOf};
 ghost use Rattle.lf_fix.specs.views.Dependents.{IsIndexOf};
-ghost use Rattle.lf_fix.specs.views.Rounds.{OthersHold, Rises, StepTells, Tells, TellsOf, start};
+ghost use Rattle.lf_fix.specs.views.Rounds.{IsSeriesRow, OthersHold, Rises, StepTells, Tells, TellsOf, start};
 
 use crate::dependents::Dependents;
-use crate::recording::recorded_row;
+use crate::recording::recorded_row_with;
 use lf_ast::Rule;
 use lf_base::choice::either;
 use lf_base::{Memory, Seq};
-use lf_classes::Universe;
+use lf_classes::{Row, Universe};
 use lf_deps::{Sources, order_of};
-use lf_flow::Env;
+use lf_flow::{Env, scraped_if_read};
 use std::alloc::Global;
 
 /// The least environment of rules: for each recorded name the smallest row that what its rules store lies in.
@@ -43,7 +43,7 @@ pub fn solve_by(
 {
     let dependents = Dependents::of(alloc, sources)?;
     let order = order_of(alloc, sources, rules)?;
-    from_bottom(alloc, universe, rules, &dependents, &order)
+    from_bottom(alloc, universe, rules, sources, &dependents, &order)
 }
 
 /// The same, by the rules that select each name and by the order of the rules. It begins where no row has a class.
@@ -51,6 +51,7 @@ fn from_bottom(
     alloc: Global,
     universe: &Universe,
     rules: &Seq<Rule>,
+    sources: &Sources,
     dependents: &Dependents,
     order: &Seq<u32>,
 ) -> Result<Env, Memory>
@@ -63,7 +64,18 @@ fn from_bottom(
     let _labels = universe.labels();
     let mut dirty = vec![in alloc; true; rules.len()]?;
     let env = Env::bottom(alloc, universe, rules)?;
-    rounds(alloc, universe, rules, dependents, order, env, &mut dirty)
+    // It is the same in every environment of the rules.
+    let scraped = scraped_if_read(alloc, universe, &env, sources)?;
+    rounds(
+        alloc,
+        universe,
+        rules,
+        dependents,
+        order,
+        scraped.as_ref(),
+        env,
+        &mut dirty,
+    )
 }
 
 /// Steps of all rules in their order, round by round, until one adds no class. At first each rule is dirty.
@@ -73,19 +85,23 @@ fn rounds(
     rules: &Seq<Rule>,
     dependents: &Dependents,
     order: &Seq<u32>,
+    scraped: Option<&Row>,
     mut env: Env,
     dirty: &mut [bool],
 ) -> Result<Env, Memory>
     requires listing { IsListing universe.now }
     requires index { IsIndexOf (rule_trees rules.now) dependents.now }
     requires order { IsOrder (rule_trees rules.now) order.now }
+    requires scraped { IfSome scraped (λ row. IsSeriesRow universe.now (rule_trees rules.now) row.now) }
     requires marks { length dirty.old ≡ length rules.now }
     requires rises { Rises universe.now (rule_trees rules.now) (start universe.now (rule_trees rules.now)) env }
     requires hold { OthersHold universe.now (rule_trees rules.now) env dirty.old }
     ensures { IfOk result (IsLeast universe.now (rule_trees rules.now)) }
 {
     loop {
-        let added = raise_all(alloc, universe, rules, dependents, order, &mut env, dirty)?;
+        let added = raise_all(
+            alloc, universe, rules, dependents, order, scraped, &mut env, dirty,
+        )?;
         if !added {
             return Ok(env);
         }
@@ -99,6 +115,7 @@ fn raise_all(
     rules: &Seq<Rule>,
     dependents: &Dependents,
     order: &Seq<u32>,
+    scraped: Option<&Row>,
     env: &mut Env,
     dirty: &mut [bool],
 ) -> Result<bool, Memory>
@@ -106,6 +123,7 @@ fn raise_all(
     requires of_rules { IsEnvironmentOf universe.now (rule_trees rules.now) env.old }
     requires index { IsIndexOf (rule_trees rules.now) dependents.now }
     requires order { IsOrder (rule_trees rules.now) order.now }
+    requires scraped { IfSome scraped (λ row. IsSeriesRow universe.now (rule_trees rules.now) row.now) }
     requires marks { length dirty.old ≡ length rules.now }
     requires hold { OthersHold universe.now (rule_trees rules.now) env.old dirty.old }
     ensures { IfOk result (Tells universe.now (rule_trees rules.now) order.now (length order.now) env.old env.new dirty.new) }
@@ -113,7 +131,7 @@ fn raise_all(
     let mut added = false;
     for place in 0..order.len() {
         let k = *order.get(place) as usize;
-        let one = step(alloc, universe, rules, dependents, k, env, dirty)?;
+        let one = step(alloc, universe, rules, dependents, scraped, k, env, dirty)?;
         added = either(added, one);
     }
     Ok(added)
@@ -126,6 +144,7 @@ fn step(
     universe: &Universe,
     rules: &Seq<Rule>,
     dependents: &Dependents,
+    scraped: Option<&Row>,
     k: usize,
     env: &mut Env,
     dirty: &mut [bool],
@@ -134,6 +153,7 @@ fn step(
     requires of_rules { IsEnvironmentOf universe.now (rule_trees rules.now) env.old }
     requires rule { k < length rules.now }
     requires index { IsIndexOf (rule_trees rules.now) dependents.now }
+    requires scraped { IfSome scraped (λ row. IsSeriesRow universe.now (rule_trees rules.now) row.now) }
     requires marks { length dirty.old ≡ length rules.now }
     requires hold { OthersHold universe.now (rule_trees rules.now) env.old dirty.old }
     ensures { IfOk result (StepTells universe.now (rule_trees rules.now) k env.old env.new dirty.old dirty.new) }
@@ -142,7 +162,7 @@ fn step(
         return Ok(false);
     }
     dirty[k] = false;
-    let added = raise(alloc, universe, rules, k, env)?;
+    let added = raise(alloc, universe, rules, scraped, k, env)?;
     if !added {
         return Ok(false);
     }
@@ -155,11 +175,13 @@ fn raise(
     alloc: Global,
     universe: &Universe,
     rules: &Seq<Rule>,
+    scraped: Option<&Row>,
     k: usize,
     env: &mut Env,
 ) -> Result<bool, Memory>
     requires listing { IsListing universe.now }
     requires of_rules { IsEnvironmentOf universe.now (rule_trees rules.now) env.old }
+    requires scraped { IfSome scraped (λ row. IsSeriesRow universe.now (rule_trees rules.now) row.now) }
     requires rule { k < length rules.now }
     ensures { IfOk result (TellsOf universe.now (rule_trees rules.now) k env.old env.new) }
 {
@@ -167,6 +189,6 @@ fn raise(
     if rule.alert {
         return Ok(false);
     }
-    let row = recorded_row(alloc, universe, env, rule)?;
+    let row = recorded_row_with(alloc, universe, env, scraped, rule)?;
     Ok(env.raise(rule.name.as_str(), &row))
 }

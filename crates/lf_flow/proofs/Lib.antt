@@ -17,6 +17,7 @@ pub mod PatternSets
 pub mod ReadNumbers
 pub mod SameRows
 pub mod ScalarRows
+pub mod ScrapedSeries
 pub mod Selected
 pub mod Sides
 pub mod SoughtSets

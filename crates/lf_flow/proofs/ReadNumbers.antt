@@ -8,7 +8,6 @@ use Rattle.lf_ast.specs.Labels.{Bytes}
 use Rattle.lf_ast.specs.Tree.{Tree}
 use Rattle.lf_deps.proofs.Ascending.{in_range, of_range}
 use Rattle.lf_deps.specs.Reading.{selectors}
-use Rattle.lf_graph.specs.views.Listing.{Adds}
 use Rattle.lf_laws.proofs.Members.{here, in_flat_map, none_in, of_flat_map, only_one}
 use Rattle.lf_semantics.proofs.Members.{all_of}
 use Rattle.lf_semantics.specs.ClassRows.{Sets}
@@ -16,7 +15,7 @@ use Rattle.lf_semantics.specs.Listing.{Listing, place}
 use Rattle.lf_semantics.specs.RowTable.{Environment, row_named, row_of}
 use Rattle.lf_flow.specs.Raising.{entries}
 use Rattle.lf_flow.specs.Reads.{AreEqualAt, ReadsNumber, names_of, number_of, rows_of}
-use Rattle.lf_flow.specs.views.Reading.{numbers_of}
+use Rattle.lf_flow.specs.views.Reading.{AreSelected, numbers_selected}
 use Rattle.lf_flow.proofs.Entries.{each_name, named_row, none_named}
 use Rattle.lf_flow.proofs.SameRows.{SameAt, row_same}
 
@@ -52,25 +51,40 @@ within n k false e j c = absurd (none_in j c)
 put_within : (n k : ℕ) → k < n → Contains (cond (nat_lt k n) (k ∷ []) []) k
 put_within n k h = let P : Bool → Type 0 = λ b. Contains (cond b (k ∷ []) []) k in subst P (sym (lt-ltb k n h)) (here k [])
 
-pub read_numbers : (env : Environment) (e : Tree) (keys : List ℕ) → Adds (flat_map (numbers_of env) (selectors e)) [] keys → (k : ℕ) → (Contains keys k → ReadsNumber env e k) × (ReadsNumber env e k → Contains keys k)
-read_numbers env e keys adds k = (λ c. elim (adds.only k c) [ inl d ↦ absurd (none_in k d) | inr d ↦ out (of_flat_map (numbers_of env) (selectors e) k d) ], λ r. adds.all k (back r))
-  where
-    found : (o : Option Bytes) → Contains (selectors e) o → Contains (numbers_of env o) k → ReadsNumber env e k
-    found None s c = (of_range (length env) k c, inr s)
-    found (Some name) s c = let w = within (length env) (number_of env name) (nat_lt (number_of env name) (length env)) refl k c in (omega (arith, w.0, w.1), inl (name, s, w.1))
+pub one_number : (names : List Bytes) (name : Bytes) (n : ℕ) → n ≡ place names name → place names name < length names → n ∷ [] ≡ numbers_selected names (Some name)
+one_number names name n e h = ap (λ k. k ∷ []) e ∙ ap (λ b. cond b (place names name ∷ []) []) (sym (lt-ltb (place names name) (length names) h))
 
-    out : (o : Option Bytes) × Contains (selectors e) o × Contains (numbers_of env o) k → ReadsNumber env e k
+pub no_number : (names : List Bytes) (name : Bytes) → length names ≤ place names name → [] ≡ numbers_selected names (Some name)
+no_number names name h = none (nat_lt (place names name) (length names)) refl
+  where
+    none : (b : Bool) → nat_lt (place names name) (length names) ≡ b → [] ≡ cond b (place names name ∷ []) []
+    none true e = absurd (omega (arith, h, ltb-true (place names name) (length names) e))
+    none false e = refl
+
+pub selected_within : (names : List Bytes) (o : Option Bytes) (k : ℕ) → Contains (numbers_selected names o) k → k < length names
+selected_within names None k c = of_range (length names) k c
+selected_within names (Some name) k c = let w = within (length names) (place names name) (nat_lt (place names name) (length names)) refl k c in omega (arith, w.0, w.1)
+
+pub read_numbers : (env : Environment) (e : Tree) (numbers : List ℕ) → AreSelected (names_of env) (selectors e) numbers → (k : ℕ) → (Contains numbers k → ReadsNumber env e k) × (ReadsNumber env e k → Contains numbers k)
+read_numbers env e numbers is k = (λ c. out (of_flat_map (numbers_selected (names_of env)) (selectors e) k ((is.same k).0 c)), λ r. (is.same k).1 (back r))
+  where
+    found : (o : Option Bytes) → Contains (selectors e) o → Contains (numbers_selected (names_of env) o) k → ReadsNumber env e k
+    found None s c = (omega (arith, of_range (length (names_of env)) k c, length-names env), inr s)
+    found (Some name) s c =
+        let w = within (length (names_of env)) (number_of env name) (nat_lt (number_of env name) (length (names_of env))) refl k c in (omega (arith, w.0, w.1, length-names env), inl (name, s, w.1))
+
+    out : (o : Option Bytes) × Contains (selectors e) o × Contains (numbers_selected (names_of env) o) k → ReadsNumber env e k
     out r = found r.0 r.1 r.2
 
-    of_name : k < length env → (name : Bytes) × Contains (selectors e) (Some name) × (number_of env name ≡ k) → Contains (flat_map (numbers_of env) (selectors e)) k
+    of_name : k < length env → (name : Bytes) × Contains (selectors e) (Some name) × (number_of env name ≡ k) → Contains (flat_map (numbers_selected (names_of env)) (selectors e)) k
     of_name h r =
-        let P : ℕ → Type 0 = λ j. Contains (numbers_of env (Some r.0)) j in
-        in_flat_map (numbers_of env) (selectors e) (Some r.0) k r.1 (subst P r.2 (put_within (length env) (number_of env r.0) (omega (arith, h, r.2))))
+        let P : ℕ → Type 0 = λ j. Contains (numbers_selected (names_of env) (Some r.0)) j in
+        in_flat_map (numbers_selected (names_of env)) (selectors e) (Some r.0) k r.1 (subst P r.2 (put_within (length (names_of env)) (number_of env r.0) (omega (arith, h, r.2, length-names env))))
 
-    back : ReadsNumber env e k → Contains (flat_map (numbers_of env) (selectors e)) k
+    back : ReadsNumber env e k → Contains (flat_map (numbers_selected (names_of env)) (selectors e)) k
     back r = elim r.1 [
       | inl n ↦ of_name r.0 n
-      | inr n ↦ in_flat_map (numbers_of env) (selectors e) None k n (in_range (length env) k r.0)
+      | inr n ↦ in_flat_map (numbers_selected (names_of env)) (selectors e) None k n (in_range (length (names_of env)) k (omega (arith, r.0, length-names env)))
     ]
 
 -- environments that are equal at numbers
@@ -114,7 +128,3 @@ put_entry [] rows k row n h = absurd (omega (arith, n, h))
 put_entry (name ∷ names) [] k row n h = absurd (omega arith)
 put_entry (name ∷ names) (r ∷ rows) zero row n h = refl
 put_entry (name ∷ names) (r ∷ rows) (suc k) row n h = ap (λ (env : Environment). (name, r) ∷ env) (put_entry names rows k row (omega (arith, n)) (omega arith))
-
--- the number of a recorded name, and of one that isn't
-pub one_number : (env : Environment) (name : Bytes) (b : Bool) → nat_lt (number_of env name) (length env) ≡ b → cond b (number_of env name ∷ []) [] ≡ numbers_of env (Some name)
-one_number env name b e = ap (λ c. cond c (number_of env name ∷ []) []) (sym e)

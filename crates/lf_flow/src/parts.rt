@@ -1,9 +1,9 @@
 //! The rows of all parts of an expression.
-ghost use Rattle.std.specs.Prelude.{◌≡◌, map, IfOk};
+ghost use Rattle.std.specs.Prelude.{◌≡◌, map, IfOk, IfSome};
 ghost use Rattle.lf_ast.specs.Tree.{tree, nodes};
 ghost use Rattle.lf_semantics.specs.Environments.{IsEnvironment};
 ghost use Rattle.lf_semantics.specs.Listing.{IsListing};
-ghost use Rattle.lf_semantics.specs.RowTable.{row_of};
+ghost use Rattle.lf_semantics.specs.RowTable.{row_of, scraped_row};
 ghost use Rattle.lf_flow.specs.views.Kept.{made_row, typed_row_of};
 
 use crate::Env;
@@ -26,8 +26,23 @@ pub fn part_rows(
     requires env { IsEnvironment universe.now env.now }
     ensures { IfOk result (λ rows. rows.items ≡ map (row_of universe.now env.now) (nodes (tree expr.now))) }
 {
+    part_rows_with(alloc, universe, env, None, expr)
+}
+
+/// As `part_rows`, by the row of all scraped series where it is at hand.
+pub fn part_rows_with(
+    alloc: Global,
+    universe: &Universe,
+    env: &Env,
+    scraped: Option<&Row>,
+    expr: &Expr,
+) -> Result<Vec<Row>, Memory>
+    requires env { IsEnvironment universe.now env.now }
+    requires scraped { IfSome scraped (λ row. row.now ≡ scraped_row universe.now env.now) }
+    ensures { IfOk result (λ rows. rows.items ≡ map (row_of universe.now env.now) (nodes (tree expr.now))) }
+{
     let _labels = universe.labels();
-    let parts = typed_parts(alloc, universe, env, expr)?;
+    let parts = typed_parts(alloc, universe, env, scraped, expr)?;
     into_rows(alloc, universe, parts)
 }
 
@@ -36,13 +51,20 @@ fn typed_parts(
     alloc: Global,
     universe: &Universe,
     env: &Env,
+    scraped: Option<&Row>,
     expr: &Expr,
 ) -> Result<Vec<TypedRow>, Memory>
     requires listing { IsListing universe.now }
     requires env { IsEnvironment universe.now env.now }
+    requires scraped { IfSome scraped (λ row. row.now ≡ scraped_row universe.now env.now) }
     ensures { IfOk result (λ parts. parts.items ≡ map (typed_row_of universe.now env.now) (nodes (tree expr.now))) }
 {
-    fold_parts(alloc, &Rows { universe, env }, expr)
+    let rows = Rows {
+        universe,
+        env,
+        scraped,
+    };
+    fold_parts(alloc, &rows, expr)
 }
 
 /// The rows of these.

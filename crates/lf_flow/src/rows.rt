@@ -1,5 +1,5 @@
 //! The row of an expression.
-ghost use Rattle.std.specs.Prelude.{◌≡◌, List, Some, map, IfOk};
+ghost use Rattle.std.specs.Prelude.{◌≡◌, List, Some, map, IfOk, IfSome};
 ghost use Rattle.std.specs.List.{Contains};
 ghost use Rattle.std.specs.Option.{option_map};
 ghost use Rattle.lf_ast.specs.Functions.{called_by, signature_of};
@@ -12,7 +12,7 @@ ghost use Rattle.lf_semantics.specs.Evaluation.{Evaluates};
 ghost use Rattle.lf_semantics.specs.Laws.{GrowsFrom};
 ghost use Rattle.lf_semantics.specs.Listing.{IsListing};
 ghost use Rattle.lf_semantics.specs.Parts.{given_by, type_by_form};
-ghost use Rattle.lf_semantics.specs.RowTable.{Environment, call_row, row_at, row_of};
+ghost use Rattle.lf_semantics.specs.RowTable.{Environment, call_row, row_at, row_of, scraped_row};
 ghost use Rattle.lf_flow.specs.views.Kept.{kept_row, typed_operand, typed_row_of};
 ghost use Rattle.lf_nodes.specs.views.Needed.{parts_needed};
 
@@ -37,38 +37,70 @@ pub fn flow(alloc: Global, universe: &Universe, env: &Env, expr: &Expr) -> Resul
     ensures sound { (S N R : List Labels) (s : Labels) → Covers universe.now (tree expr.now) → Admits universe.now env.now S N → Evaluates S N (tree expr.now) R → Contains R s → IfOk result (λ row. Represents universe.now row s) }
     ensures grows { IfOk result (GrowsFrom universe.now env.now (tree expr.now)) }
 {
+    flow_with(alloc, universe, env, None, expr)
+}
+
+/// As `flow`, by the row of all scraped series where it is at hand.
+pub fn flow_with(
+    alloc: Global,
+    universe: &Universe,
+    env: &Env,
+    scraped: Option<&Row>,
+    expr: &Expr,
+) -> Result<Row, Memory>
+    requires env { IsEnvironment universe.now env.now }
+    requires scraped { IfSome scraped (λ row. row.now ≡ scraped_row universe.now env.now) }
+    ensures table { IfOk result (λ row. row ≡ row_of universe.now env.now (tree expr.now)) }
+    ensures sound { (S N R : List Labels) (s : Labels) → Covers universe.now (tree expr.now) → Admits universe.now env.now S N → Evaluates S N (tree expr.now) R → Contains R s → IfOk result (λ row. Represents universe.now row s) }
+    ensures grows { IfOk result (GrowsFrom universe.now env.now (tree expr.now)) }
+{
     let _labels = universe.labels();
-    let told = row(alloc, universe, env, expr)?;
+    let told = row(alloc, universe, env, scraped, expr)?;
     Ok(told)
 }
 
 /// The same, of a universe that is known to be one.
-fn row(alloc: Global, universe: &Universe, env: &Env, expr: &Expr) -> Result<Row, Memory>
+fn row(
+    alloc: Global,
+    universe: &Universe,
+    env: &Env,
+    scraped: Option<&Row>,
+    expr: &Expr,
+) -> Result<Row, Memory>
     requires listing { IsListing universe.now }
     requires env { IsEnvironment universe.now env.now }
+    requires scraped { IfSome scraped (λ row. row.now ≡ scraped_row universe.now env.now) }
     ensures { IfOk result (λ row. row ≡ row_of universe.now env.now (tree expr.now)) }
 {
-    let whole = fold_up(alloc, &Rows { universe, env }, expr)?;
+    let rows = Rows {
+        universe,
+        env,
+        scraped,
+    };
+    let whole = fold_up(alloc, &rows, expr)?;
     whole.into_row(alloc, universe)
 }
 
-/// Makes the row of an expression of those of its parts, in an environment. Of the arguments of a call only the operand is looked at.
+/// Makes the row of an expression of those of its parts, in an environment, and takes the row of all scraped series where it is at hand. Of the arguments of a call only the
+/// operand is looked at.
 #[derive(Drop)]
 pub(crate) struct Rows<'a> {
     pub(crate) universe: &'a Universe,
     pub(crate) env: &'a Env,
+    pub(crate) scraped: Option<&'a Row>,
 }
 
 impl<'a> Model for Rows<'a> {
     ghost use Rattle.lf_semantics.specs.Environments.{IsEnvironment};
     ghost use Rattle.lf_semantics.specs.Listing.{IsListing, Listing};
-    ghost use Rattle.lf_semantics.specs.RowTable.{Environment};
+    ghost use Rattle.lf_semantics.specs.RowTable.{Environment, scraped_row};
+    ghost use Rattle.std.specs.Prelude.{◌≡◌, IfSome};
 
     ghost Value = { Listing × Environment };
 
     ghost view = { λ rows. (rows.universe.now, rows.env.now) };
 
-    ghost invariant = { λ rows. IsListing rows.universe.now × IsEnvironment rows.universe.now rows.env.now };
+    ghost invariant = { λ rows. IsListing rows.universe.now × IsEnvironment rows.universe.now rows.env.now × IfSome rows.scraped (λ row. row.now ≡ scraped_row rows.universe.now rows.env.now) };
 }
 
 impl<'a> Fold for Rows<'a> {
@@ -104,7 +136,15 @@ impl<'a> Fold for Rows<'a> {
         requires values { values.items ≡ map (typed_row_of self.now.0 self.now.1) (chosen (parts_needed (tree expr.now)) (parts_of (tree expr.now))) }
         ensures { IfOk result (λ made. made ≡ typed_row_of self.now.0 self.now.1 (tree expr.now)) }
     {
-        typed_row(alloc, self.universe, self.env, expr, function, values)
+        typed_row(
+            alloc,
+            self.universe,
+            self.env,
+            self.scraped,
+            expr,
+            function,
+            values,
+        )
     }
 }
 
@@ -113,12 +153,14 @@ fn typed_row(
     alloc: Global,
     universe: &Universe,
     env: &Env,
+    scraped: Option<&Row>,
     expr: &Expr,
     function: Option<Function>,
     parts: Vec<TypedRow>,
 ) -> Result<TypedRow, Memory>
     requires listing { IsListing universe.now }
     requires env { IsEnvironment universe.now env.now }
+    requires scraped { IfSome scraped (λ row. row.now ≡ scraped_row universe.now env.now) }
     requires function { option_map signature_of function ≡ called_by (tree expr.now) }
     requires parts { parts.items ≡ map (typed_row_of universe.now env.now) (chosen (parts_needed (tree expr.now)) (parts_of (tree expr.now))) }
     ensures row { IfOk result (λ typed. typed.row ≡ kept_row universe.now env.now (tree expr.now)) }
@@ -136,6 +178,7 @@ fn typed_row(
             alloc,
             universe,
             env,
+            scraped,
             name,
             matchers.as_slice(),
             &sight.range,

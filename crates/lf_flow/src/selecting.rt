@@ -1,35 +1,37 @@
 //! The row of a selector.
-ghost use Rattle.std.specs.Prelude.{◌≡◌, ◌<◌, ◌+◌, ◌&&◌, eqb, length, not, IfOk};
-ghost use Rattle.std.specs.List.{AllByRecursion, list_any};
+ghost use Rattle.std.specs.Prelude.{◌≡◌, IfOk, IfSome};
+ghost use Rattle.std.specs.List.{AllByRecursion};
 ghost use Rattle.lf_semantics.specs.ClassRows.{HasShape};
 ghost use Rattle.lf_semantics.specs.Environments.{IsEnvironment};
-ghost use Rattle.lf_semantics.specs.Listing.{IsListing, class_of, named_at};
+ghost use Rattle.lf_semantics.specs.Listing.{IsListing};
 ghost use Rattle.lf_ast.specs.Selectors.{selected_name};
 ghost use Rattle.lf_semantics.specs.RowTable.{row_named, row_or_series, scraped_row, seen_row, selector_row, series_row, with_recorded};
-ghost use Rattle.lf_flow.specs.views.ClassSets.{IsSet};
 ghost use Rattle.lf_flow.specs.Raising.{joined_each};
 
 use crate::Env;
 use crate::narrowing::narrow;
+use crate::scraped::scraped_row;
 use lf_ast::{Matcher, selected_name};
 use lf_base::{Memory, Text};
-use lf_classes::{Row, TextSet, Universe};
+use lf_classes::{Row, Universe};
 use std::alloc::Global;
 
-/// The row of what a selector sees: the row of its name in the environment, else that of the series of this name, and without a name all recorded rows and all series;
-/// of these the classes that pass its matchers.
+/// The row of what a selector sees: the row of its name in the environment, else that of the series of this name, and without a name all recorded rows and all series,
+/// by their row where it is at hand; of these the classes that pass its matchers.
 pub fn select(
     alloc: Global,
     universe: &Universe,
     env: &Env,
+    scraped: Option<&Row>,
     name: &Option<Text>,
     matchers: &[Matcher],
 ) -> Result<Row, Memory>
     requires env { IsEnvironment universe.now env.now }
+    requires scraped { IfSome scraped (λ row. row.now ≡ scraped_row universe.now env.now) }
     ensures { IfOk result (λ row. row ≡ selector_row universe.now env.now name.now matchers.now) }
 {
     let _labels = universe.labels();
-    let mut row = seen(alloc, universe, env, name, matchers)?;
+    let mut row = seen(alloc, universe, env, scraped, name, matchers)?;
     for matcher in matchers {
         narrow(alloc, universe, matcher, &mut row)?;
     }
@@ -41,16 +43,18 @@ fn seen(
     alloc: Global,
     universe: &Universe,
     env: &Env,
+    scraped: Option<&Row>,
     name: &Option<Text>,
     matchers: &[Matcher],
 ) -> Result<Row, Memory>
     requires listing { IsListing universe.now }
     requires env { IsEnvironment universe.now env.now }
+    requires scraped { IfSome scraped (λ row. row.now ≡ scraped_row universe.now env.now) }
     ensures { IfOk result (λ row. row ≡ seen_row universe.now env.now (selected_name name.now matchers.now)) }
 {
     match selected_name(name, matchers) {
         Some(name) => named(alloc, universe, env, name.as_str()),
-        None => nameless(alloc, universe, env),
+        None => nameless(alloc, universe, env, scraped),
     }
 }
 
@@ -79,12 +83,18 @@ fn series(alloc: Global, universe: &Universe, name: &str) -> Result<Row, Memory>
 }
 
 /// All series and all recorded samples.
-fn nameless(alloc: Global, universe: &Universe, env: &Env) -> Result<Row, Memory>
+fn nameless(
+    alloc: Global,
+    universe: &Universe,
+    env: &Env,
+    scraped: Option<&Row>,
+) -> Result<Row, Memory>
     requires listing { IsListing universe.now }
     requires env { IsEnvironment universe.now env.now }
+    requires scraped { IfSome scraped (λ row. row.now ≡ scraped_row universe.now env.now) }
     ensures { IfOk result (λ row. row ≡ with_recorded universe.now env.now (scraped_row universe.now env.now)) }
 {
-    let mut row = scraped(alloc, universe, env)?;
+    let mut row = copied_or_made(alloc, universe, env, scraped)?;
     match env.all() {
         Some(all) => row.join(all),
         None => join_each(universe, env.rows(), &mut row),
@@ -105,32 +115,18 @@ fn join_each(universe: &Universe, rows: &[Row], row: &mut Row)
     }
 }
 
-/// All series: each name but the empty one and the recorded ones.
-fn scraped(alloc: Global, universe: &Universe, env: &Env) -> Result<Row, Memory>
-    ensures { IfOk result (λ row. row ≡ scraped_row universe.now env.now) }
-{
-    let mut row = Row::full(alloc, universe)?;
-    let label = universe.label_of("__name__");
-    let on = unrecorded(alloc, universe, label, env.recorded())?;
-    row.set_classes(label, &on);
-    Ok(row)
-}
-
-/// The classes of a label but the empty text and those of some names.
-fn unrecorded(
+/// All series, by their row where it is at hand.
+fn copied_or_made(
     alloc: Global,
     universe: &Universe,
-    label: u32,
-    names: &TextSet,
-) -> Result<Vec<bool>, Memory>
-    requires label { label < length universe.now.named }
-    ensures { IfOk result (λ on. IsSet (length (named_at universe.now label) + 2) (λ class. not (eqb class 0) && not (list_any (λ name. eqb (class_of universe.now label name) class) names.now)) on.items) }
+    env: &Env,
+    scraped: Option<&Row>,
+) -> Result<Row, Memory>
+    requires { IfSome scraped (λ row. row.now ≡ scraped_row universe.now env.now) }
+    ensures { IfOk result (λ row. row ≡ scraped_row universe.now env.now) }
 {
-    let mut on = vec![in alloc; true; universe.classes(label) as usize]?;
-    on[0] = false;
-    for place in 0..names.len() {
-        let class = universe.class_of(label, names.get(place).as_str());
-        on[class as usize] = false;
+    match scraped {
+        Some(row) => row.copy(),
+        None => scraped_row(alloc, universe, env),
     }
-    Ok(on)
 }

@@ -1,5 +1,5 @@
 //! What is told of an expression at once: its row and its type.
-ghost use Rattle.std.specs.Prelude.{◌≡◌, None, Some, IfOk};
+ghost use Rattle.std.specs.Prelude.{◌≡◌, None, Some, IfOk, IfSome};
 ghost use Rattle.std.specs.Option.{option_map};
 ghost use Rattle.lf_ast.specs.Functions.{signature_of};
 ghost use Rattle.lf_ast.specs.Tree.{trees};
@@ -8,7 +8,7 @@ ghost use Rattle.lf_semantics.specs.ClassRows.{HasShape, bottom};
 ghost use Rattle.lf_semantics.specs.Environments.{IsEnvironment};
 ghost use Rattle.lf_semantics.specs.Listing.{IsListing};
 ghost use Rattle.lf_semantics.specs.Parts.{given_by};
-ghost use Rattle.lf_semantics.specs.RowTable.{binary_row, call_row, selector_row, sign_row};
+ghost use Rattle.lf_semantics.specs.RowTable.{binary_row, call_row, scraped_row, selector_row, sign_row};
 ghost use Rattle.lf_flow.specs.views.Kept.{made_row, operand_row};
 
 use crate::Env;
@@ -79,20 +79,22 @@ pub fn empty(alloc: Global, universe: &Universe, form: ExprType) -> Result<Typed
     })
 }
 
-/// A selector.
+/// A selector. The row of all scraped series is taken where it is at hand.
 pub fn selector(
     alloc: Global,
     universe: &Universe,
     env: &Env,
+    scraped: Option<&Row>,
     name: &Option<Text>,
     matchers: &[Matcher],
     range: &Option<Text>,
 ) -> Result<TypedRow, Memory>
     requires env { IsEnvironment universe.now env.now }
+    requires scraped { IfSome scraped (λ row. row.now ≡ scraped_row universe.now env.now) }
     ensures row { IfOk result (λ typed. typed.row ≡ Some (selector_row universe.now env.now name.now matchers.now)) }
     ensures form { IfOk result (λ typed. typed.form ≡ selected range.now) }
 {
-    let row = select(alloc, universe, env, name, matchers)?;
+    let row = select(alloc, universe, env, scraped, name, matchers)?;
     Ok(TypedRow {
         row: Some(row),
         form: selected(range),

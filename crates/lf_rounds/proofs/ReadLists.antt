@@ -8,18 +8,18 @@ use Rattle.std.proofs.lemmas.List.{get_or-map, get_or_append_left, length-map}
 use Rattle.std.proofs.lemmas.Option.{get_or_from_slice_get, slice_get_within}
 use Rattle.lf_ast.specs.Labels.{Bytes}
 use Rattle.lf_ast.specs.Rules.{RuleTree}
-use Rattle.lf_deps.proofs.Ascending.{in_range, of_range}
 use Rattle.lf_deps.specs.Reading.{selectors}
 use Rattle.lf_deps.specs.views.Sources.{IsSourcesOf, Sources}
-use Rattle.lf_flow.specs.Reads.{ReadsNumber, names_of}
-use Rattle.lf_laws.proofs.Members.{here, in_flat_map, none_in, of_flat_map, only_one}
+use Rattle.lf_flow.specs.views.Reading.{AreSelected, numbers_selected}
+use Rattle.lf_flow.proofs.ReadNumbers.{read_numbers, selected_within}
+use Rattle.lf_laws.proofs.Members.{of_flat_map}
 use Rattle.lf_laws.proofs.Slices.{one_at}
 use Rattle.lf_semantics.specs.ClassRows.{Sets}
 use Rattle.lf_semantics.specs.Environments.{recorded_names}
 use Rattle.lf_semantics.specs.Listing.{place}
 use Rattle.lf_semantics.specs.RowTable.{Environment}
 use Rattle.lf_rounds.specs.Tasks.{AreReadBy, AreReads}
-use Rattle.lf_rounds.specs.views.Reading.{AreEachSelected, AreSelected, numbers_selected}
+use Rattle.lf_rounds.specs.views.Reading.{AreEachSelected}
 
 -- the number of the name of one rule more
 module _ (rules : List RuleTree) (recorded : List Bytes) (all : List ℕ) (k n : ℕ) (rule : RuleTree) (len : length all ≡ k) (there : slice_get rules k ≡ Some rule) (placed : rule.alert ≡ false → n ≡ place recorded rule.name)
@@ -34,47 +34,15 @@ module _ (rules : List RuleTree) (recorded : List Bytes) (all : List ℕ) (k n :
             ap (λ j. get_or (all ++ n ∷ []) j 0) end ∙ get_or-append_seam all n [] 0 ∙ subst Q same placed e)
       ]
 
--- what a selector selects
-
-below : (n k : ℕ) (b : Bool) → nat_lt k n ≡ b → (j : ℕ) → Contains (cond b (k ∷ []) []) j → (k < n) × (k ≡ j)
-below n k true e j c = (ltb-true k n e, only_one k j c)
-below n k false e j c = absurd (none_in j c)
-
-put_below : (n k : ℕ) → k < n → Contains (cond (nat_lt k n) (k ∷ []) []) k
-put_below n k h = let P : Bool → Type 0 = λ b. Contains (cond b (k ∷ []) []) k in subst P (sym (lt-ltb k n h)) (here k [])
-
-pub one_number : (names : List Bytes) (name : Bytes) (n : ℕ) → n ≡ place names name → place names name < length names → n ∷ [] ≡ numbers_selected names (Some name)
-one_number names name n e h = ap (λ k. k ∷ []) e ∙ ap (λ b. cond b (place names name ∷ []) []) (sym (lt-ltb (place names name) (length names) h))
-
-pub no_number : (names : List Bytes) (name : Bytes) → length names ≤ place names name → [] ≡ numbers_selected names (Some name)
-no_number names name h = none (nat_lt (place names name) (length names)) refl
-  where
-    none : (b : Bool) → nat_lt (place names name) (length names) ≡ b → [] ≡ cond b (place names name ∷ []) []
-    none true e = absurd (omega (arith, h, ltb-true (place names name) (length names) e))
-    none false e = refl
-
-selected_within : (names : List Bytes) (o : Option Bytes) (k : ℕ) → Contains (numbers_selected names o) k → k < length names
-selected_within names None k c = of_range (length names) k c
-selected_within names (Some name) k c = let w = below (length names) (place names name) (nat_lt (place names name) (length names)) refl k c in omega (arith, w.0, w.1)
-
 -- what a rule reads is what its selectors select
 pub are_read : (rules : List RuleTree) (r : RuleTree) (numbers : List ℕ) → AreSelected (recorded_names rules) (selectors r.expr) numbers → AreReadBy rules r numbers
 are_read rules r numbers is = record {
   ascend = is.ascend;
   within = λ k c. (let s = of_flat_map (numbers_selected (recorded_names rules)) (selectors r.expr) k ((is.same k).0 c) in selected_within (recorded_names rules) s.0 k s.2);
-  all = every;
+  all = λ env same k reads.
+      let P : List Bytes → Type 0 = λ names. AreSelected names (selectors r.expr) numbers in
+      (read_numbers env r.expr numbers (subst P (sym same) is) k).1 reads;
 }
-  where
-    every : (env : Environment) → names_of env ≡ recorded_names rules → (k : ℕ) → ReadsNumber env r.expr k → Contains numbers k
-    every env same k reads =
-        let long = sym (length-map env (λ (entry : Bytes × Sets). entry.0)) ∙ ap length same in
-        let h : k < length (recorded_names rules) = omega (arith, reads.0, long) in
-        (is.same k).1 (elim reads.1 [
-          | inl n ↦ (let at : place (recorded_names rules) n.0 ≡ k = ap (λ ns. place ns n.0) (sym same) ∙ n.2 in
-              let P : ℕ → Type 0 = λ j. Contains (numbers_selected (recorded_names rules) (Some n.0)) j in
-              in_flat_map (numbers_selected (recorded_names rules)) (selectors r.expr) (Some n.0) k n.1 (subst P at (put_below (length (recorded_names rules)) (place (recorded_names rules) n.0) (omega (arith, h, at)))))
-          | inr n ↦ in_flat_map (numbers_selected (recorded_names rules)) (selectors r.expr) None k n (in_range (length (recorded_names rules)) k h)
-        ])
 
 -- the numbers of one list of selectors more
 module _ (names : List Bytes) (selected : List (List (Option Bytes))) (all : List (List ℕ)) (k : ℕ) (numbers : List ℕ) (len : length all ≡ k) (is : AreSelected names (get_or selected k []) numbers)

@@ -1,17 +1,16 @@
 //! What rounds know of the rules that they are over.
-ghost use Rattle.std.specs.Prelude.{◌≡◌, ◌++◌, ◌∷◌, [], cond, false, length, nat_lt, IfOk, OnOk};
-ghost use Rattle.std.specs.List.{range_with_len};
+ghost use Rattle.std.specs.Prelude.{◌≡◌, false, IfOk};
 ghost use Rattle.lf_ast.specs.Rules.{rule_tree, rule_trees};
 ghost use Rattle.lf_deps.specs.views.Sources.{IsSourcesOf};
 ghost use Rattle.lf_semantics.specs.Listing.{place};
 ghost use Rattle.lf_rounds.specs.views.Noting.{ArePlaced, IsKnown};
-ghost use Rattle.lf_rounds.specs.views.Reading.{AreEachSelected, AreSelected, numbers_selected};
+ghost use Rattle.lf_rounds.specs.views.Reading.{AreEachSelected};
 
-use crate::numbers::in_ascending_order;
 use lf_ast::Rule;
-use lf_base::{Memory, Seq, Text};
+use lf_base::{Memory, Seq};
 use lf_classes::TextSet;
 use lf_deps::{Sources, rule_number};
+use lf_flow::numbers_selected;
 use std::alloc::Global;
 
 /// Of each rule the number of the name that it records, and the numbers of those whose rows it reads. It is made once for all rounds over the same rules.
@@ -41,7 +40,7 @@ impl RecordedReads {
 fn recorded_by_all(alloc: Global, rules: &Seq<Rule>, recorded: &TextSet) -> Result<Seq<u32>, Memory>
     ensures { IfOk result (ArePlaced recorded.now (rule_trees rules.now)) }
 {
-    let mut numbers = Seq::from_vec(Vec::with_capacity(alloc, rules.len())?);
+    let mut numbers = Seq::with_capacity(alloc, rules.len())?;
     for k in 0..rules.len() {
         let number = recorded_by(rules.get(k), recorded)?;
         numbers.push(number)?;
@@ -63,60 +62,10 @@ fn recorded_by(rule: &Rule, recorded: &TextSet) -> Result<u32, Memory>
 fn read_by_all(alloc: Global, sources: &Sources) -> Result<Seq<Seq<u32>>, Memory>
     ensures { IfOk result (AreEachSelected sources.now.names sources.now.selected) }
 {
-    let mut all = Seq::from_vec(Vec::with_capacity(alloc, sources.rule_count())?);
+    let mut all = Seq::with_capacity(alloc, sources.rule_count())?;
     for k in 0..sources.rule_count() {
-        let numbers = read_by(alloc, sources.recorded(), sources.selected_by(k))?;
+        let numbers = numbers_selected(alloc, sources.recorded(), sources.selected_by(k))?;
         all.push(numbers)?;
     }
     Ok(all)
-}
-
-/// The numbers of the names that selectors select, in ascending order.
-fn read_by(alloc: Global, recorded: &TextSet, found: &[Option<Text>]) -> Result<Seq<u32>, Memory>
-    ensures { IfOk result (AreSelected recorded.now found.now) }
-{
-    let mut numbers = Seq::new(alloc);
-    for selector in found {
-        add_selected(recorded, selector, &mut numbers)?;
-    }
-    let sorted = in_ascending_order(alloc, numbers)?;
-    Ok(sorted)
-}
-
-/// Adds the numbers of the names that a selector selects: that of its name, if it is recorded, and without a name those of all.
-fn add_selected(
-    recorded: &TextSet,
-    selector: &Option<Text>,
-    numbers: &mut Seq<u32>,
-) -> Result<(), Memory>
-    ensures { OnOk result (numbers.new ≡ numbers.old ++ numbers_selected recorded.now selector.now) }
-{
-    match selector {
-        Some(name) => add_name(recorded, name.as_str(), numbers),
-        None => add_below(recorded.len(), numbers),
-    }
-}
-
-/// Adds the number of a name, if it is recorded.
-fn add_name(recorded: &TextSet, name: &str, numbers: &mut Seq<u32>) -> Result<(), Memory>
-    ensures { OnOk result (numbers.new ≡ numbers.old ++ cond (nat_lt (place recorded.now name.now) (length recorded.now)) (place recorded.now name.now ∷ []) []) }
-{
-    let place = recorded.place(name);
-    if place < recorded.len() {
-        let number = rule_number(place)?;
-        numbers.push(number)
-    } else {
-        Ok(())
-    }
-}
-
-/// Adds the numbers below a count.
-fn add_below(count: usize, numbers: &mut Seq<u32>) -> Result<(), Memory>
-    ensures { OnOk result (numbers.new ≡ numbers.old ++ range_with_len 0 count) }
-{
-    for k in 0..count {
-        let number = rule_number(k)?;
-        numbers.push(number)?;
-    }
-    Ok(())
 }

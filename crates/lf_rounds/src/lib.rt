@@ -5,7 +5,6 @@ mod beginning;
 mod between;
 mod due;
 mod known;
-mod numbers;
 mod round;
 pub mod rule;
 mod solving;

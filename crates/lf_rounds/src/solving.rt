@@ -17,11 +17,11 @@ use crate::round::{recording_rules_by, take_row};
 use crate::table_words::TableWords;
 use crate::{Round, RoundSeat};
 use lf_ast::Rule;
-use lf_base::{Gate, Memory, Seq, Text};
+use lf_base::{Gate, Memory, Seq};
 use lf_classes::Universe;
 use lf_deps::Sources;
 use lf_fix::solve_by;
-use lf_flow::Env;
+use lf_flow::{Env, read_all};
 use std::alloc::Global;
 use std::thread::{Threads, join};
 
@@ -121,21 +121,11 @@ fn solve_in_rounds<R: Threads + Sync, G: Gate + Sync>(
 fn read_many(sources: &Sources) -> bool {
     let mut rules = 0_usize;
     for k in 0..sources.rule_count() {
-        if reads_all(sources.selected_by(k)) {
+        if read_all(sources.selected_by(k)) {
             rules = rules.saturating_add(1);
         }
     }
     rules.saturating_mul(sources.recorded().len()) > READ_ROWS
-}
-
-/// Whether one of these selectors has no name.
-fn reads_all(found: &[Option<Text>]) -> bool {
-    for selector in found {
-        if selector.is_none() {
-            return true;
-        }
-    }
-    false
 }
 
 /// Whether no further round is needed behind one at whose start the words had this sum: no rule is due, or no word changed.

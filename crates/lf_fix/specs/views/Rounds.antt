@@ -6,7 +6,7 @@ use Rattle.lf_flow.specs.Raising.{joined}
 use Rattle.lf_semantics.specs.ClassRows.{Sets, bottom}
 use Rattle.lf_semantics.specs.Environments.{EnvironmentLeq, HoldsRule, IsPostFixedPoint, IsEnvironmentOf, recorded_names, recorded_row}
 use Rattle.lf_semantics.specs.Listing.{Listing}
-use Rattle.lf_semantics.specs.RowTable.{Environment}
+use Rattle.lf_semantics.specs.RowTable.{Environment, scraped_row}
 use Rattle.lf_fix.specs.views.Dependents.{SelectsRow}
 
 -- no recorded name has a sample
@@ -25,6 +25,10 @@ missing_of (set ∷ row) = missing_in set + missing_of row
 abbrev pub missing : Environment → ℕ
 missing [] = 0
 missing (entry ∷ env) = missing_of entry.1 + missing env
+
+-- the row of all scraped series, in each environment of the rules
+abbrev pub IsSeriesRow : Listing → List RuleTree → Sets → Type 0
+IsSeriesRow u rules row = (env : Environment) → IsEnvironmentOf u rules env → row ≡ scraped_row u env
 
 -- what steps make of an environment: one of the same rules, in each closed one in which the earlier one lies
 pub record Rises (u : Listing) (rules : List RuleTree) (env later : Environment) : Type 0 where

@@ -1,6 +1,6 @@
 //! Recorded names by their numbers.
 ghost use Rattle.std.specs.Prelude.{◌≡◌, ◌<◌, [], length, slice_index_or};
-ghost use Rattle.lf_flow.specs.Reads.{name_at, number_of, rows_of, with_row};
+ghost use Rattle.lf_flow.specs.Reads.{name_at, rows_of, with_row};
 
 use super::Env;
 use lf_base::Text;
@@ -20,20 +20,6 @@ impl Env {
         ensures { result.now ≡ name_at self.now k }
     {
         self.names.get(k as usize)
-    }
-
-    /// The number of a name, and how many names there are where no rule records it.
-    pub(crate) fn number(&self, name: &str) -> usize
-        ensures { result ≡ number_of self.now name.now }
-    {
-        self.names.place(name)
-    }
-
-    /// How many recorded names there are.
-    pub(crate) fn count(&self) -> usize
-        ensures { result ≡ length self.now }
-    {
-        self.names.len()
     }
 
     /// The row of the recorded name with the number `k`.

@@ -1,7 +1,7 @@
 use Rattle.std.proofs.Common.{◌≡◌, not, sym, ◌∙◌, ap, subst}
 use Rattle.lf_ast.specs.Rules.{RuleTree, rule_tree, rule_trees}
 use Rattle.std.proofs.lemmas.Bool.{not-true}
-use Rattle.std.proofs.lemmas.Option.{none-some}
+use Rattle.std.proofs.lemmas.Option.{IfSome_then, none-some}
 use Rattle.lf_ast.specs.Labels.{Bytes}
 use Rattle.lf_flow.specs.Raising.{joined}
 use Rattle.lf_semantics.specs.ClassRows.{Sets}
@@ -25,6 +25,9 @@ raise-requires-clause-shape c other is =
     let R : Sets → Type 0 = λ row. IsRow u row in
     let own = subst R (sym c.in_ok-row.ensures) (recorded_row_is u c.requires.listing c.args.env.now c.requires.of_rules.environment (rule_tree c.get-rule.result.now)) in
     same_shape u c.requires.listing (rule_trees c.args.rules.now) c.args.env.now c.as_str.result.now c.in_ok-row.row other c.requires.of_rules own is
+
+pub recorded_row_with-requires-clause-scraped : goal.recorded_row_with-requires-clause-scraped
+recorded_row_with-requires-clause-scraped c = IfSome_then c.args.scraped c.requires.scraped (λ row is. is c.args.env.now c.requires.of_rules)
 
 pub returns : goal.returns
 returns c =

@@ -1,14 +1,18 @@
-use Rattle.std.proofs.Common.{ℕ, List, true, ◌∷◌, [], ap, subst, ◌∙◌, arith}
-use Rattle.std.proofs.lemmas.Bool.{lt-ltb}
+use Rattle.std.proofs.Common.{◌≡◌, ◌++◌, ℕ, List, ap, sym, ◌∙◌, subst, arith}
+use Rattle.std.proofs.lemmas.List.{append-nil}
 use Rattle.std.specs.Prelude.{OnOk}
-use Rattle.lf_graph.specs.views.Listing.{Adds}
-use Rattle.lf_flow.specs.Reads.{number_of}
-use Rattle.lf_flow.proofs.ReadNumbers.{one_number}
+use Rattle.lf_flow.proofs.ReadNumbers.{no_number, one_number}
 use Rattle.lf_flow.proofs.reading.add_name.Goals as goal
 
-pub returns-then-number-count : goal.returns-then-number-count
-returns-then-number-count c =
-    let env = c.args.env.now in
-    let name = c.args.name.now in
-    let P : List ℕ → Type 0 = λ l. OnOk c.add_number.result (Adds l c.args.numbers.now.keys c.add_number.new.found.keys) in
-    subst P (ap (λ (k : ℕ). k ∷ []) c.number-number.ensures ∙ one_number env name true (lt-ltb (number_of env name) _ (omega (arith, c.number-number.ensures, c.count.ensures, c.if-number-count.true)))) c.add_number.ensures.ok
+pub returns-in_ok-number : goal.returns-in_ok-number
+returns-in_ok-number c =
+    let names = c.args.recorded.now in
+    let old : List ℕ = c.args.numbers.now in
+    let P : List ℕ → Type 0 = λ l. OnOk c.push.result (c.push.new.self ≡ old ++ l) in
+    subst P (one_number names c.args.name.now c.in_ok-number.number (c.in_ok-number.ensures ∙ c.place-place.ensures.place) (omega (arith, c.place-place.ensures.place, c.len.ensures.count, c.if-place-len.true))) c.push.ensures.ok
+
+pub returns-else-place-len : goal.returns-else-place-len
+returns-else-place-len c =
+    let names = c.args.recorded.now in
+    let old : List ℕ = c.args.numbers.now in
+    sym (append-nil old) ∙ ap (λ (l : List ℕ). old ++ l) (no_number names c.args.name.now (omega (arith, c.place-place.ensures.place, c.len.ensures.count, c.if-place-len.false)))

@@ -1,6 +1,6 @@
 use Rattle.std.proofs.Common.{◌≡◌, ◌+◌, ◌∷◌, [], ℕ, List, Option, length, get_or, ap, sym, ◌∙◌, subst, arith, length-append}
 use Rattle.lf_ast.specs.Labels.{Bytes}
-use Rattle.lf_rounds.specs.views.Reading.{AreSelected}
+use Rattle.lf_flow.specs.views.Reading.{AreSelected}
 use Rattle.lf_rounds.proofs.ReadLists.{selected_more}
 use Rattle.lf_rounds.proofs.known.read_by_all.Goals as goal
 

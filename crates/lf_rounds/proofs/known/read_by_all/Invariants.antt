@@ -1,5 +1,5 @@
 use Rattle.std.proofs.Common.{◌≡◌, ◌<◌, ℕ, [], length, slice_index_or}
-use Rattle.lf_rounds.specs.views.Reading.{AreSelected}
+use Rattle.lf_flow.specs.views.Reading.{AreSelected}
 use Rattle.lf_rounds.proofs.known.read_by_all.Given as goal
 
 abbrev pub invariant-loop-k : goal.invariant-loop-k

@@ -10,7 +10,9 @@ use Rattle.lf_ast.specs.declared.verdict.Finding.{Finding as Row}
 use Rattle.lf_semantics.specs.ClassRows.{HasShape, Sets, is_live}
 use Rattle.lf_semantics.specs.Environments.{IsEnvironment, rule_row}
 use Rattle.lf_semantics.specs.Listing.{IsListing, Listing}
+use Rattle.lf_semantics.specs.RowTable.{scraped_row}
 use Rattle.lf_semantics.proofs.NormalizedRows.{rule_row_is}
+use Rattle.lf_flow.proofs.ScrapedSeries.{when_lent}
 use Rattle.lf_checks.specs.AlertTemplate.{HaveSources}
 use Rattle.lf_checks.specs.Files.{StandIn}
 use Rattle.lf_checks.specs.Findings.{IsFindingIn}
@@ -19,6 +21,14 @@ use Rattle.lf_checks.specs.views.Duplicates.{AreFirsts, IsFirstOf}
 use Rattle.lf_checks.specs.views.Shown.{AreNumbered, Lists}
 use Rattle.lf_checks.proofs.Checking.{numbered_three, of_three}
 use Rattle.lf_checks.proofs.checker.Checker.found.Goals as goal
+
+pub sought_rows-requires-clause-scraped : goal.sought_rows-requires-clause-scraped
+sought_rows-requires-clause-scraped c =
+    when_lent (λ (row : Sets). row ≡ scraped_row c.self.inside.universe.now c.self.inside.env.now) c.self.inside.scraped c.as_ref-scraped.result c.as_ref-scraped.ensures.value c.self.invariant.3
+
+pub own_row-requires-clause-scraped : goal.own_row-requires-clause-scraped
+own_row-requires-clause-scraped c =
+    when_lent (λ (row : Sets). row ≡ scraped_row c.self.inside.universe.now c.self.inside.env.now) c.self.inside.scraped c.as_ref-scraped.result c.as_ref-scraped.ensures.value c.self.invariant.3
 
 pub of_rule-requires-clause-shape : goal.of_rule-requires-clause-shape
 of_rule-requires-clause-shape c =

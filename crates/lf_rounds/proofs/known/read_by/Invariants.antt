@@ -1,7 +1,0 @@
-use Rattle.std.proofs.Common.{◌≡◌, take}
-use Rattle.std.specs.List.{flat_map}
-use Rattle.lf_rounds.specs.views.Reading.{numbers_selected}
-use Rattle.lf_rounds.proofs.known.read_by.Given as goal
-
-abbrev pub invariant-loop-selector : goal.invariant-loop-selector
-invariant-loop-selector l = l.numbers ≡ flat_map (numbers_selected l.recorded) (take l.selector-index l.found)
