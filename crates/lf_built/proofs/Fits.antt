@@ -2,6 +2,9 @@
 use Rattle.std.proofs.Common.{◌≡◌, ◌<◌, ◌+◌, ℕ, Bool, true, false, not, ◌&&◌, List, [], ◌∷◌, map, length, reverse, get_or, Option, Some, None, sym, ◌∙◌, ap, subst, arith}
 use Rattle.std.specs.Prelude.{slice_get}
 use Rattle.std.specs.List.{Contains, find, flat_map}
+use Rattle.std.specs.Option.{option_map_or}
+use Rattle.std.specs.Str.{bytes_eq}
+use Rattle.std.proofs.lemmas.Bool.{and_parts, not-true}
 use Rattle.std.proofs.lemmas.List.{get_or-map}
 use Rattle.std.proofs.lemmas.Option.{get_or_from_slice_get, slice_get_within}
 use Rattle.lf_ast.specs.Labels.{Bytes}
@@ -21,20 +24,31 @@ use Rattle.lf_built.specs.views.Fitting.{IsFirstRule}
 use Rattle.lf_built.specs.views.Indexed.{IsPrepared, env_of, forks_of, trees_of, universe_of}
 use Rattle.lf_built.specs.views.Marking.{set_by}
 use Rattle.lf_built.specs.views.PartRows.{PartRows, part_rows}
-use Rattle.lf_built.specs.views.RuleRows.{own_or}
+use Rattle.lf_built.specs.views.RuleRows.{IsStored, own_or}
 use Rattle.lf_built.proofs.OwnRows.{as_many, begins, side_by_side}
 use Rattle.lf_built.proofs.FirstRules.{first_is, found_at, none_at}
 
+-- the row of what the rule with a number stores
+abbrev pub stored_at : Prepared → ℕ → Sets
+stored_at p k = option_map_or (recorded_row (universe_of p) (env_of p)) (slice_get (trees_of p) k) []
+
 -- the rule isn't marked, and its row, as it is recorded, holds the texts
 abbrev pub fits_by : Prepared → List ℕ → Given → ℕ → Bool
-fits_by p marked D k = not (is_marked (reverse marked) k) && holds_texts (universe_of p) (get_or p.recorded.items k []) D
+fits_by p marked D k = not (is_marked (reverse marked) k) && holds_texts (universe_of p) (stored_at p k) D
 
 module _ (p : Prepared) (known : IsPrepared p) where
-  pub recorded_at : (k : ℕ) (r : RuleTree) (d : Sets) → slice_get (trees_of p) k ≡ Some r → get_or p.recorded.items k d ≡ recorded_row (universe_of p) (env_of p) r
-  recorded_at k r d is =
-      ap (λ (xs : List Sets). get_or xs k d) known.recorded
-      ∙ get_or-map (recorded_row (universe_of p) (env_of p)) (trees_of p) k r d (slice_get_within (trees_of p) k r is)
-      ∙ ap (recorded_row (universe_of p) (env_of p)) (get_or_from_slice_get (trees_of p) k r r is)
+  pub recorded_at : (k : ℕ) (r : RuleTree) → slice_get (trees_of p) k ≡ Some r → stored_at p k ≡ recorded_row (universe_of p) (env_of p) r
+  recorded_at k r is = ap (λ (o : Option RuleTree). option_map_or (recorded_row (universe_of p) (env_of p)) o []) is
+
+  -- what is told of the row of what a rule stores
+  abbrev Stored : RuleTree → Option Sets → Type 0
+  Stored r kept = r.alert ≡ false → IsStored (env_of p) r.name (recorded_row (universe_of p) (env_of p) r) kept
+
+  pub recorded_there : length p.recorded.items ≡ length (trees_of p)
+  recorded_there = as_many Stored (trees_of p) p.recorded.items known.recorded
+
+  pub stored_told : (k : ℕ) (r : RuleTree) (kept : Option Sets) → slice_get (trees_of p) k ≡ Some r → kept ≡ get_or p.recorded.items k kept → Stored r kept
+  stored_told k r kept is there = side_by_side Stored (trees_of p) p.recorded.items k r kept known.recorded is there
 
   told_at : (k : ℕ) (r : RuleTree) (x : PartRows) → slice_get (trees_of p) k ≡ Some r → x ≡ get_or p.parts.items k x → x.rows ≡ row_of (universe_of p) (env_of p) r.expr ∷ map (row_of (universe_of p) (env_of p)) (flat_map nodes (parts_of r.expr))
   told_at k r x is e =
@@ -66,11 +80,11 @@ module _ (p : Prepared) (known : IsPrepared p) where
       ∙ ap (set_by (labels_in (universe_of p))) (get_or_from_slice_get (trees_of p) k r r is)
 
   -- a number of a name is one of a rule
-  pub number_within : (name : Bytes) (k : ℕ) → Contains (numbers_of (records name) 0 (trees_of p)) k → (r : RuleTree) × (slice_get (trees_of p) k ≡ Some r)
+  pub number_within : (name : Bytes) (k : ℕ) → Contains (numbers_of (records name) 0 (trees_of p)) k → (r : RuleTree) × (slice_get (trees_of p) k ≡ Some r) × (r.alert ≡ false)
   number_within name k c =
       let f = of_numbers (records name) (trees_of p) 0 k c in
       let e : f.0 ≡ k = omega (arith, f.1) in
-      (f.2, subst (λ (n : ℕ). slice_get (trees_of p) n ≡ Some f.2) e f.3)
+      (f.2, subst (λ (n : ℕ). slice_get (trees_of p) n ≡ Some f.2) e f.3, not-true f.2.alert (and_parts (not f.2.alert) (bytes_eq f.2.name name) f.4).0)
 
   module _ (marked : List ℕ) (name : Bytes) (D : Given) where
     abbrev numbers : List ℕ
@@ -86,7 +100,7 @@ module _ (p : Prepared) (known : IsPrepared p) where
         rest k r = not (is_marked (reverse marked) k) && holds_texts (universe_of p) (recorded_row (universe_of p) (env_of p) r) D
 
         agree : (i j : ℕ) (r : RuleTree) → j ≡ i → slice_get (trees_of p) i ≡ Some r → rest j r ≡ fits_by p marked D j
-        agree i j r e is = ap (λ (row : Sets). not (is_marked (reverse marked) j) && holds_texts (universe_of p) row D) (sym (recorded_at j r [] (ap (slice_get (trees_of p)) e ∙ is)))
+        agree i j r e is = ap (λ (row : Sets). not (is_marked (reverse marked) j) && holds_texts (universe_of p) row D) (sym (recorded_at j r (ap (slice_get (trees_of p)) e ∙ is)))
 
         Found : Option ℕ → Type 0
         Found x = Rattle.lf_built.proofs.FirstRules.FirstOf (fits_by p marked D) name rest 0 (trees_of p) x first

@@ -17,6 +17,7 @@ pub mod RowsApart
 pub mod SeriesNames
 pub mod SideTexts
 pub mod StandingParts
+pub mod StoredRows
 pub mod Tasks
 pub mod Unnamed
 pub mod Works

@@ -65,7 +65,7 @@ fn marks_in(alloc: Global, names: &[Text], expr: &Expr) -> Result<Seq<NodeMarks>
     ensures { IfOk result (λ all. all ≡ map (marks_at names.now) (nodes (tree expr.now))) }
 {
     let nodes = nodes_of(alloc, expr)?;
-    let mut all = Seq::from_vec(Vec::with_capacity(alloc, nodes.len())?);
+    let mut all = Seq::with_capacity(alloc, nodes.len())?;
     for k in 0..nodes.len() {
         let node = nodes[k];
         let lost = lost_by(alloc, names, node)?;
@@ -101,7 +101,7 @@ fn side_marks(
 ) -> Result<Seq<SideMark>, Memory>
     ensures { IfOk result (λ marks. marks ≡ map (side_mark op matching.now) names.now) }
 {
-    let mut marks = Seq::from_vec(Vec::with_capacity(alloc, names.len())?);
+    let mut marks = Seq::with_capacity(alloc, names.len())?;
     for label in 0..names.len() {
         marks.push(side_mark(op, matching, names[label].as_str()))?;
     }

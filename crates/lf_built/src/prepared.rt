@@ -1,10 +1,11 @@
 //! What the built worlds of rules share.
-ghost use Rattle.std.specs.Prelude.{◌≡◌, ◌+◌, ◌<◌, ◌^◌, Some, length, map, slice_get, IfOk};
+ghost use Rattle.std.specs.Prelude.{◌≡◌, ◌+◌, ◌<◌, ◌^◌, Some, false, length, map, slice_get, IfOk};
 ghost use Rattle.lf_ast.specs.Rules.{RuleTree, rule_trees};
 ghost use Rattle.lf_deps.specs.views.Sources.{IsSourcesOf};
+ghost use Rattle.lf_semantics.specs.ClassRows.{Sets};
 ghost use Rattle.lf_semantics.specs.Environments.{CoversRules, IsEnvironment, recorded_row as row_recorded, rule_row as row_of_rule};
 ghost use Rattle.lf_semantics.specs.Parts.{is_scalar_part};
-ghost use Rattle.lf_semantics.specs.RowTable.{row_of};
+ghost use Rattle.lf_semantics.specs.RowTable.{row_named, row_of};
 ghost use Rattle.lf_trials.specs.Candidates.{labels_in};
 ghost use Rattle.lf_built.specs.views.Indexed.{IsPrepared, IsPreparedFor, env_of, forks_of, trees_of, universe_of};
 ghost use Rattle.lf_built.specs.declared.row_making.RuleRow.{RuleRow};
@@ -30,7 +31,7 @@ use std::alloc::Global;
 
 /// What the built worlds of rules share: the index of the rules, the names of the labels, what is told of the parts of each rule's expression, the names that were sought for
 /// its selectors, what is marked of the labels for these parts and for each rule, and the rows of each rule and of what it stores. The row of a rule is that of its whole
-/// expression where it isn't told.
+/// expression where it isn't told, and that of what it stores is the row of its name in the environment where it isn't told.
 #[derive(Drop)]
 pub struct Prepared<'a> {
     pub(crate) universe: &'a Universe,
@@ -44,7 +45,7 @@ pub struct Prepared<'a> {
     pub(crate) marks: Vec<Seq<NodeMarks>>,
     pub(crate) set: Vec<Seq<bool>>,
     pub(crate) rows: Vec<Option<Row>>,
-    pub(crate) recorded: Vec<Row>,
+    pub(crate) recorded: Vec<Option<Row>>,
 }
 
 /// What is told of the parts of rules' expressions, the names that were sought, and the rows of the rules and of what they store, each in a list of its own.
@@ -53,7 +54,7 @@ struct RowLists {
     parts: Vec<PartRows>,
     sought: Vec<SoughtNames>,
     own: Vec<Option<Row>>,
-    recorded: Vec<Row>,
+    recorded: Vec<Option<Row>>,
 }
 
 impl<'a> Prepared<'a> {
@@ -205,13 +206,28 @@ impl<'a> Prepared<'a> {
         own_or(&self.rows[rule], whole)
     }
 
-    /// The row of what a rule stores.
+    /// The row of what a recording rule stores.
     pub(crate) fn recorded_row(&self, rule: usize) -> &Row
         requires known { IsPrepared self.now }
         requires rule { rule < length self.now.rules.now }
-        ensures { (r : RuleTree) → slice_get (trees_of self.now) rule ≡ Some r → result.now ≡ row_recorded (universe_of self.now) (env_of self.now) r }
+        ensures { (r : RuleTree) → slice_get (trees_of self.now) rule ≡ Some r → r.alert ≡ false → result.now ≡ row_recorded (universe_of self.now) (env_of self.now) r }
     {
-        &self.recorded[rule]
+        match &self.recorded[rule] {
+            Some(row) => row,
+            None => self.row_of_name(rule),
+        }
+    }
+
+    /// The row of a rule's name in the environment, where it has one.
+    fn row_of_name(&self, rule: usize) -> &Row
+        requires known { IsPrepared self.now }
+        requires rule { rule < length self.now.rules.now }
+        ensures { (r : RuleTree) (row : Sets) → slice_get (trees_of self.now) rule ≡ Some r → row_named (env_of self.now) r.name ≡ Some row → result.now ≡ row }
+    {
+        match self.env.row(self.rules.get(rule).name.as_str()) {
+            Some(row) => row,
+            None => self.rule_row(rule),
+        }
     }
 }
 

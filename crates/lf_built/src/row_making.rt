@@ -1,15 +1,16 @@
 //! The rows of rules.
-ghost use Rattle.std.specs.Prelude.{◌≡◌, ◌<◌, ◌≤◌, List, None, Some, cond, length, slice_get, IfOk};
+ghost use Rattle.std.specs.Prelude.{◌≡◌, ◌<◌, ◌≤◌, List, None, Some, cond, false, length, slice_get, IfNone, IfOk, IfSome};
 ghost use Rattle.lf_ast.specs.Tree.{nodes};
 ghost use Rattle.lf_ast.specs.Rules.{RuleTree, rule_tree, rule_trees};
 ghost use Rattle.lf_deps.specs.views.Sources.{IsSourcesOf};
 ghost use Rattle.lf_semantics.specs.ClassRows.{is_live};
-ghost use Rattle.lf_semantics.specs.Environments.{IsEnvironment, recorded_names, recorded_row as row_recorded, rule_row as row_of_rule};
+ghost use Rattle.lf_semantics.specs.Environments.{IsEnvironment, IsRow, recorded_names, recorded_row as row_recorded, rule_row as row_of_rule};
+ghost use Rattle.lf_semantics.specs.Listing.{IsListing, Listing};
 ghost use Rattle.lf_semantics.specs.RowTable.{row_of as row_in};
 ghost use Rattle.lf_trials.specs.Forks.{has_passing};
 ghost use Rattle.lf_forks.specs.views.Holding.{test_of};
 ghost use Rattle.lf_built.specs.views.PartRows.{part_rows as rows_of_parts};
-ghost use Rattle.lf_built.specs.views.RuleRows.{AreRowsOf, IsRowOf, own_or};
+ghost use Rattle.lf_built.specs.views.RuleRows.{AreRowsOf, IsRowOf, IsStored, own_or};
 ghost use Rattle.lf_built.specs.views.Unsaid.{AreSought};
 
 use crate::part_rows::PartRows;
@@ -30,13 +31,14 @@ const METRIC: u32 = 0;
 const MOST_LIKELY: usize = 8;
 
 /// What is told of the parts of a rule's expression, the names that were sought for its selectors, and the rows of the rule and of what it stores. The row of a rule is that of
-/// the whole expression where it isn't told.
+/// the whole expression where it isn't told, and that of what it stores is the row of its name in the environment where it isn't told. Of an alert, which stores nothing, no row
+/// is kept.
 #[derive(Drop)]
 pub struct RuleRow {
     pub(crate) parts: PartRows,
     pub(crate) names: SoughtNames,
     pub(crate) own: Option<Row>,
-    pub(crate) recorded: Row,
+    pub(crate) recorded: Option<Row>,
 }
 
 impl RuleRow {
@@ -114,14 +116,14 @@ fn row_of(
     ensures names { IfOk result (λ row. row.names ≡ names) }
     ensures parts { IfOk result (λ row. row.parts ≡ rows_of_parts universe.now env.now (has_passing (test_of forks.now)) (nodes (rule_tree rule.now).expr)) }
     ensures own { IfOk result (λ row. own_or row.own (row_in universe.now env.now (rule_tree rule.now).expr) ≡ row_of_rule universe.now env.now (rule_tree rule.now)) }
-    ensures recorded { IfOk result (λ row. row.recorded ≡ row_recorded universe.now env.now (rule_tree rule.now)) }
+    ensures recorded { IfOk result (λ row. (rule_tree rule.now).alert ≡ false → IsStored env.now (rule_tree rule.now).name (row_recorded universe.now env.now (rule_tree rule.now)) row.recorded) }
 {
     // For what its contract says of the universe.
     let _labels = universe.labels();
     let parts = PartRows::of(alloc, universe, env, forks, &rule.expr, likely)?;
-    let mut recorded = rule_row_by(alloc, universe, rule, parts.row(0))?;
-    let own = if_empty(&recorded)?;
-    make_recorded(universe, &mut recorded, rule);
+    let whole = rule_row_by(alloc, universe, rule, parts.row(0))?;
+    let own = if_empty(&whole)?;
+    let recorded = stored_row(universe, env, rule, whole);
     Ok(RuleRow {
         parts,
         names,
@@ -139,6 +141,43 @@ fn if_empty(row: &Row) -> Result<Option<Row>, Memory>
     } else {
         Ok(None)
     }
+}
+
+/// The row of what a rule stores, by its own, where it is to be kept: that of an alert isn't asked for, and that of a name which no other rule records is in the environment.
+fn stored_row(universe: &Universe, env: &Env, rule: &Rule, mut row: Row) -> Option<Row>
+    requires listing { IsListing universe.now }
+    requires env { IsEnvironment universe.now env.now }
+    requires row { row ≡ row_of_rule universe.now env.now (rule_tree rule.now) }
+    ensures { rule.now.alert ≡ false → IsStored env.now (rule_tree rule.now).name (row_recorded universe.now env.now (rule_tree rule.now)) result }
+{
+    if rule.alert {
+        return None;
+    }
+    make_recorded(universe, &mut row, rule);
+    unless_in(env, rule.name.as_str(), row)
+}
+
+/// A row, unless it is that of a name in the environment.
+fn unless_in(env: &Env, name: &str, row: Row) -> Option<Row>
+    requires rows { (u : Listing) × IsEnvironment u env.now × IsRow u row }
+    ensures { IsStored env.now name.now row result }
+{
+    match env.row(name) {
+        Some(other) => unless_same(row, other),
+        None => Some(row),
+    }
+}
+
+/// A row, unless another one is the same.
+fn unless_same(row: Row, other: &Row) -> Option<Row>
+    requires rows { (u : Listing) × IsRow u row × IsRow u other.now }
+    ensures own { IfSome result (λ kept. kept ≡ row) }
+    ensures same { IfNone result (other.now ≡ row) }
+{
+    if other.covers(&row) && row.covers(other) {
+        return None;
+    }
+    Some(row)
 }
 
 /// The row of a rule: its own where it is told, and else that of its whole expression.

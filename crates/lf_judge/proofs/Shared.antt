@@ -31,7 +31,7 @@ rule_sync =
 
 pub hand_sync : (κ : NamedLft) → IsSync (AtHand.the_row κ)
 hand_sync κ =
-    search (sendable, rule_sync, env.the_sync, recorded.the_field_sync, seq.the_sync, source.the_sync, position.the_sync, universe.the_sync, option.the_sync, crosses) depth 40 fits 200000
+    search (sendable, rule_sync, env.the_sync, recorded.the_field_sync, seq.the_sync, source.the_sync, position.the_sync, universe.the_sync, row.the_sync, option.the_sync, crosses) depth 40 fits 200000
 
 pub trials_sync : (κ : NamedLft) → IsSync (Trials.the_row κ)
 trials_sync κ =

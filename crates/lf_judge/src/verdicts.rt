@@ -9,7 +9,7 @@ use crate::moving::taken_out;
 use lf_ast::{RuleVerdicts, Verdict};
 use lf_base::{Memory, Seq, Span};
 use lf_open::OpenAt;
-use lf_worlds::{LabelKnowledge, RuleKnowledge};
+use lf_worlds::{LabelKnowledge, RuleKnowledge, ShownWorlds};
 use std::alloc::Global;
 
 /// Whether a label of the rule stays unresolved.
@@ -83,7 +83,10 @@ fn label_told(known: LabelKnowledge, first: Option<OpenAt>, number: u32, span: S
     match known {
         LabelKnowledge::Guaranteed => Verdict::Guaranteed,
         LabelKnowledge::Impossible => Verdict::Impossible,
-        LabelKnowledge::Possible { with, without } => Verdict::Possible { with, without },
+        LabelKnowledge::Possible { shown } => {
+            let ShownWorlds { with, without } = Box::into_inner(shown);
+            Verdict::Possible { with, without }
+        }
         LabelKnowledge::Unresolved => unresolved_told(first, number, span),
     }
 }

@@ -7,6 +7,7 @@ pub mod PreparedFor
 pub mod Reaches
 pub mod RuleGraph
 pub mod RuleRows
-pub mod ShownWorlds
+pub mod SharedAbsence
+pub mod ShownTrials
 pub mod StandsOpen
 pub mod Steps

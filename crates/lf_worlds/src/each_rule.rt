@@ -12,7 +12,7 @@ ghost use Rattle.lf_built.specs.views.RuleRows.{AreRowsOf};
 ghost use Rattle.lf_worlds.specs.Unresolved.{AreTyped, IsOpenIfUnresolved};
 ghost use Rattle.lf_worlds.specs.views.Readings.{AreReadingsBy, AreReadingsOf};
 ghost use Rattle.lf_worlds.specs.views.Told.{label_verdict, rule_verdict};
-ghost use Rattle.lf_worlds.specs.views.Tried.{IsEvaluatedAt};
+ghost use Rattle.lf_worlds.specs.views.Tried.{IsEvaluatedAt, IsRowAt};
 
 use crate::at_need::UniformAtNeed;
 use crate::leaving::{has_open_label, settled};
@@ -38,6 +38,7 @@ pub struct Trials<'a> {
     rules: &'a Seq<Rule>,
     sources: &'a Sources,
     graph: &'a NameGraph,
+    forks: &'a Forks,
     prepared: Prepared<'a>,
     names: Vec<Text>,
 }
@@ -50,6 +51,8 @@ impl<'a> Model for Trials<'a> {
     ghost use Rattle.lf_classes.specs.Limits.{IsWithin};
     ghost use Rattle.lf_semantics.specs.Environments.{CoversRules, IsEnvironment, IsLeast};
     ghost use Rattle.lf_trials.specs.Candidates.{labels_in};
+    ghost use Rattle.lf_forks.specs.views.ForkTests.{TellsSelectors};
+    ghost use Rattle.lf_forks.specs.views.Holding.{test_of};
     ghost use Rattle.lf_built.specs.views.Indexed.{IsPreparedFor};
     ghost use Rattle.lf_worlds.specs.views.Readings.{AreReadingsBy};
     ghost use Rattle.lf_worlds.specs.views.Tried.{Tried};
@@ -60,7 +63,7 @@ impl<'a> Model for Trials<'a> {
 
     ghost view = { λ t. record { universe = t.universe.now; env = t.env.now; rules = t.rules.now } };
 
-    ghost invariant = { λ t. CoversRules t.universe.now (rule_trees t.rules.now) × IsEnvironment t.universe.now t.env.now × AreReadingsBy (rule_trees t.rules.now) t.sources.now t.graph.now t.prepared.forks.now × IsPreparedFor t.universe.now t.env.now t.rules.now t.prepared.forks.now t.prepared × (t.names.items ≡ labels_in t.universe.now) × IsWithin t.universe.now × IsLeast t.universe.now (rule_trees t.rules.now) t.env.now };
+    ghost invariant = { λ t. CoversRules t.universe.now (rule_trees t.rules.now) × IsEnvironment t.universe.now t.env.now × AreReadingsBy (rule_trees t.rules.now) t.sources.now t.graph.now t.prepared.forks.now × IsPreparedFor t.universe.now t.env.now t.rules.now t.prepared.forks.now t.prepared × (t.names.items ≡ labels_in t.universe.now) × IsWithin t.universe.now × IsLeast t.universe.now (rule_trees t.rules.now) t.env.now × TellsSelectors (rule_trees t.rules.now) (test_of t.forks.now) };
 }
 
 impl<'a> Trials<'a> {
@@ -109,6 +112,7 @@ impl<'a> Trials<'a> {
             rules,
             sources,
             graph,
+            forks,
             prepared,
             names,
         })
@@ -149,6 +153,7 @@ impl<'a> Trials<'a> {
         requires rule { i < length self.now.rules }
         requires evaluated { IsEvaluatedAt (rule_trees self.now.rules) i }
         requires shape { HasShape self.now.universe row.now }
+        requires row { IsRowAt self.now.universe self.now.env (rule_trees self.now.rules) i row.now }
         ensures { IfOk result (λ of. AreLabelVerdicts self.now.universe self.now.env (rule_trees self.now.rules) i row.now (labels_in self.now.universe) (map label_verdict of)) }
     {
         if has_open_label(self.universe, row) {
@@ -163,6 +168,7 @@ impl<'a> Trials<'a> {
         requires rule { i < length self.now.rules }
         requires evaluated { IsEvaluatedAt (rule_trees self.now.rules) i }
         requires shape { HasShape self.now.universe row.now }
+        requires row { IsRowAt self.now.universe self.now.env (rule_trees self.now.rules) i row.now }
         ensures { IfOk result (λ of. AreLabelVerdicts self.now.universe self.now.env (rule_trees self.now.rules) i row.now (labels_in self.now.universe) (map label_verdict of)) }
     {
         let reach = reach_of(alloc, self.sources, self.graph, i)?;
@@ -181,6 +187,7 @@ impl<'a> Trials<'a> {
             self.env,
             self.rules,
             names,
+            self.forks,
             i,
             built,
             uniform,

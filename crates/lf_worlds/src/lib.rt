@@ -16,4 +16,4 @@ pub use each_rule::Trials;
 pub use measure::{label_selectors, label_selectors_by};
 pub use one_call::trials;
 pub use readings::Readings;
-pub use verdict::{LabelKnowledge, RuleKnowledge};
+pub use verdict::{LabelKnowledge, RuleKnowledge, ShownWorlds};

@@ -3,7 +3,14 @@
 use lf_ast::World;
 use lf_base::Seq;
 
-/// What is known of a label on the samples of a rule.
+/// A world that shows a label, and one that shows it lacking.
+#[derive(Drop)]
+pub struct ShownWorlds {
+    pub with: World,
+    pub without: World,
+}
+
+/// What is known of a label on the samples of a rule. Most rules have worlds of few of a run's labels, and what is known of the others takes no room for them.
 #[derive(Drop)]
 pub enum LabelKnowledge {
     /// Each sample has it.
@@ -11,7 +18,7 @@ pub enum LabelKnowledge {
     /// No sample has it.
     Impossible,
     /// A world shows a sample with it, and another one a sample without it.
-    Possible { with: World, without: World },
+    Possible { shown: Box<ShownWorlds> },
     /// Nothing is known.
     Unresolved,
 }

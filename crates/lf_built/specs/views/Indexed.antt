@@ -1,5 +1,5 @@
 -- What the built worlds of rules share: how contracts see the code. It defines nothing.
-use Rattle.std.specs.Prelude.{◌≡◌, Bool, List, Option, map}
+use Rattle.std.specs.Prelude.{◌≡◌, false, Bool, List, Option, map}
 use Rattle.std.specs.List.{AllZip}
 use Rattle.lf_ast.specs.Rules.{RuleTree, rule_trees}
 use Rattle.lf_ast.specs.Tree.{Tree, nodes}
@@ -17,7 +17,7 @@ use Rattle.lf_built.specs.declared.prepared.Prepared.{Prepared}
 use Rattle.lf_built.specs.views.Marking.{marks_at, set_by}
 use Rattle.lf_built.specs.views.PartRows.{part_rows}
 use Rattle.lf_built.specs.declared.unsaid.SoughtName.{SoughtName}
-use Rattle.lf_built.specs.views.RuleRows.{own_or}
+use Rattle.lf_built.specs.views.RuleRows.{IsStored, own_or}
 use Rattle.lf_built.specs.views.Unsaid.{AreSought}
 
 -- what it is of
@@ -47,7 +47,7 @@ pub record IsPrepared (p : Prepared) : Type 0 where
   pub marks : p.marks.items ≡ map (λ (r : RuleTree). map (marks_at (labels_in (universe_of p))) (nodes r.expr)) (trees_of p)
   pub set : p.set.items ≡ map (set_by (labels_in (universe_of p))) (trees_of p)
   pub rows : AllZip (λ (r : RuleTree) (own : Option Sets). own_or own (row_of (universe_of p) (env_of p) r.expr) ≡ rule_row (universe_of p) (env_of p) r) (trees_of p) p.rows.items
-  pub recorded : p.recorded.items ≡ map (recorded_row (universe_of p) (env_of p)) (trees_of p)
+  pub recorded : AllZip (λ (r : RuleTree) (kept : Option Sets). r.alert ≡ false → IsStored (env_of p) r.name (recorded_row (universe_of p) (env_of p) r) kept) (trees_of p) p.recorded.items
 
 -- it is prepared for these
 pub record IsPreparedFor (u : Listing) (e : Environment) (rs : List Rule) (fs : Forks) (p : Prepared) : Type 0 where

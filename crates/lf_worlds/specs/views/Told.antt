@@ -15,7 +15,7 @@ shown_by world = record { trial = record { series = world.series; steps = world.
 abbrev pub label_verdict : LabelKnowledge → LabelVerdict
 label_verdict Guaranteed = verdict.Guaranteed
 label_verdict Impossible = verdict.Impossible
-label_verdict (Possible present absent) = verdict.Possible (shown_by present) (shown_by absent)
+label_verdict (Possible shown) = verdict.Possible (shown_by shown.value.with) (shown_by shown.value.without)
 label_verdict Unresolved = verdict.Unresolved
 
 abbrev pub rule_verdict : RuleKnowledge → RuleVerdict

@@ -1,13 +1,6 @@
 use denote.Param.Send.{sendable}
 use Rattle.std.proofs.Crossing.{crosses}
-use Rattle.lf_flow.proofs.env.Env.TheSendSync as env
-use Rattle.lf_checks.proofs.rule_dependency.RecordedNames.TheSendSync as recorded
-use Rattle.lf_base.proofs.seq.Seq.TheSendSync as seq
-use Rattle.lf_judge.proofs.source.Source.TheSendSync as source
-use Rattle.lf_report.proofs.line_index.Position.TheSendSync as position
-use Rattle.lf_classes.proofs.universe.Universe.TheSendSync as universe
-use Rattle.std.proofs.option.Option.TheSendSync as option
-use Rattle.lf_judge.proofs.Shared.{rule_sync}
+use Rattle.lf_judge.proofs.Shared.{hand_sync}
 use Rattle.std.proofs.Common.{◌∙◌, false, rules, sym}
 use Rattle.std.proofs.lemmas.List.{length-map}
 use Rattle.std.proofs.lemmas.Result.{IfOk-weaker}
@@ -26,4 +19,4 @@ returns g c =
 
 pub map_pieces-requires-sync-F : goal.map_pieces-requires-sync-F
 map_pieces-requires-sync-F g c κs within =
-    search (sendable, rule_sync, env.the_sync, recorded.the_field_sync, seq.the_sync, source.the_sync, position.the_sync, universe.the_sync, option.the_sync, crosses) depth 40 fits 200000
+    search (sendable, hand_sync, crosses) depth 40 fits 200000

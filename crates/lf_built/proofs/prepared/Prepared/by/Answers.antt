@@ -1,4 +1,4 @@
-use Rattle.std.proofs.Common.{◌≡◌, List, Option, map, refl, sym, ap, ◌∙◌, subst}
+use Rattle.std.proofs.Common.{◌≡◌, false, List, Option, map, refl, sym, ap, ◌∙◌, subst}
 use Rattle.std.specs.List.{AllZip}
 use Rattle.lf_ast.specs.Labels.{Bytes}
 use Rattle.lf_ast.specs.Tree.{nodes}
@@ -13,7 +13,7 @@ use Rattle.lf_forks.specs.views.Holding.{test_of}
 use Rattle.lf_built.specs.declared.row_making.RuleRow.{RuleRow}
 use Rattle.lf_built.specs.views.Marking.{marks_at, set_by}
 use Rattle.lf_built.specs.views.PartRows.{part_rows}
-use Rattle.lf_built.specs.views.RuleRows.{own_or}
+use Rattle.lf_built.specs.views.RuleRows.{IsStored, own_or}
 use Rattle.lf_built.specs.declared.unsaid.SoughtName.{SoughtName}
 use Rattle.lf_built.specs.views.Unsaid.{AreSought}
 use Rattle.lf_built.proofs.RowsApart.{along, images}
@@ -26,6 +26,7 @@ returns c =
     let forks = c.args.forks.now in
     let trees : List RuleTree = rule_trees c.args.rules.now in
     let IsOwn : RuleTree → Option Sets → Type 0 = λ (r : RuleTree) (own : Option Sets). own_or own (row_of u env r.expr) ≡ rule_row u env r in
+    let Stored : RuleTree → Option Sets → Type 0 = λ (r : RuleTree) (kept : Option Sets). r.alert ≡ false → IsStored env r.name (recorded_row u env r) kept in
     let Found : RuleTree → List (Option SoughtName) → Type 0 = λ (r : RuleTree) (found : List (Option SoughtName)). AreSought u trees (nodes r.expr) found in
     record {
       universe = refl;
@@ -49,6 +50,6 @@ returns c =
             ∙ ap (λ (names : List Bytes). map (set_by names) (rule_trees c.as_slice-all.result.now)) (c.as_slice-labels.ensures.value ∙ c.in_ok-names.ensures)
             ∙ ap (λ (rs : List Rule). map (set_by (labels_in u)) (rule_trees rs)) c.as_slice-all.ensures;
         rows = subst (AllZip IsOwn trees) (sym c.in_ok-parts.ensures.own) (images IsOwn (λ (row : RuleRow). row.own) trees c.args.rows c.requires.rows (λ r row is. is.own));
-        recorded = c.in_ok-parts.ensures.recorded ∙ along (λ (row : RuleRow). row.recorded) (recorded_row u env) trees c.args.rows c.requires.rows (λ r row is. is.recorded);
+        recorded = subst (AllZip Stored trees) (sym c.in_ok-parts.ensures.recorded) (images Stored (λ (row : RuleRow). row.recorded) trees c.args.rows c.requires.rows (λ r row is. is.recorded));
       };
     }

@@ -16,14 +16,14 @@ use Rattle.lf_semantics.specs.Environments.{records}
 use Rattle.lf_trials.specs.Reached.{is_marked}
 use Rattle.lf_built.proofs.FirstRules.{get_or_in}
 use Rattle.lf_built.specs.views.Fitting.{IsFirstRule}
-use Rattle.lf_built.proofs.Fits.{fits_by, none_fit, number_within, recorded_at, some_fits}
+use Rattle.lf_built.proofs.Fits.{fits_by, none_fit, number_within, recorded_at, some_fits, stored_at}
 use Rattle.lf_built.proofs.StandingParts.{recorded_shape}
 use Rattle.lf_built.proofs.prepared.Prepared.first_fitting.Goals as goal
 use Rattle.lf_built.proofs.prepared.Prepared.first_fitting.Goals.{else-not-has-via-then-not-has+else-is_held_by, else-not-has-via-else-not-has}
 
 -- what is known of the number at an index
 module _ (p : Rattle.lf_built.specs.declared.prepared.Prepared.Prepared) (known : Rattle.lf_built.specs.views.Indexed.IsPrepared p) (name : Bytes) (items : List ℕ) (is : items ≡ numbers_of (records name) 0 (trees_of p)) (i : ℕ) (less : i < length items) where
-  rule_at : (r : RuleTree) × (slice_get (trees_of p) (get_or items i 0) ≡ Some r)
+  rule_at : (r : RuleTree) × (slice_get (trees_of p) (get_or items i 0) ≡ Some r) × (r.alert ≡ false)
   rule_at = number_within p known name (get_or items i 0) (subst (λ (l : List ℕ). Contains l (get_or items i 0)) is (i, less, get_or_in items i (get_or items i 0) 0 less))
 
 pub recorded_row-requires-clause-rule : goal.recorded_row-requires-clause-rule
@@ -40,7 +40,7 @@ is_held_by-requires-clause-shape c =
     let items = c.makers_of-number-items.result.now in
     let i : ℕ = c.loop-number.number-index in
     let f = rule_at p c.requires.known c.args.name.now items (c.makers_of-number-items.ensures ∙ makers_is (trees_of p) p.sources.now c.requires.known.sources c.args.name.now) i (omega (arith, c.loop-number-test.true)) in
-    recorded_shape p c.requires.known f.0 c.recorded_row.result.now (c.recorded_row.ensures f.0 f.1)
+    recorded_shape p c.requires.known f.0 c.recorded_row.result.now (c.recorded_row.ensures f.0 f.1 f.2)
 
 pub returns-then-is_held_by-clause-first : goal.returns-then-is_held_by-clause-first
 returns-then-is_held_by-clause-first c D stands =
@@ -52,10 +52,10 @@ returns-then-is_held_by-clause-first c D stands =
     let less : i < length items = omega (arith, c.loop-number-test.true) in
     let f = rule_at p c.requires.known name items is i less in
     let k : ℕ = get_or items i 0 in
-    let row = c.recorded_row.ensures f.0 f.1 ∙ sym (recorded_at p c.requires.known k f.0 [] f.1) in
-    let held : holds_texts (universe_of p) (get_or p.recorded.items k []) D ≡ true = sym (c.is_held_by.ensures D stands ∙ ap (λ (x : Sets). holds_texts (universe_of p) x D) row) ∙ c.if-is_held_by.true in
+    let row = c.recorded_row.ensures f.0 f.1 f.2 ∙ sym (recorded_at p c.requires.known k f.0 f.1) in
+    let held : holds_texts (universe_of p) (stored_at p k) D ≡ true = sym (c.is_held_by.ensures D stands ∙ ap (λ (x : Sets). holds_texts (universe_of p) x D) row) ∙ c.if-is_held_by.true in
     let unmarked : is_marked (reverse c.args.marked.now) k ≡ false = sym c.has.ensures ∙ c.if-not-has.true in
-    let here : fits_by p c.args.marked.now D k ≡ true = ap (λ b. not b && holds_texts (universe_of p) (get_or p.recorded.items k []) D) unmarked ∙ held in
+    let here : fits_by p c.args.marked.now D k ≡ true = ap (λ b. not b && holds_texts (universe_of p) (stored_at p k) D) unmarked ∙ held in
     let P : List ℕ → Type 0 = λ l. (j : ℕ) → j < i → fits_by p c.args.marked.now D (get_or l j 0) ≡ false in
     let Q : List ℕ → Type 0 = λ l. fits_by p c.args.marked.now D (get_or l i 0) ≡ true in
     let R : List ℕ → Type 0 = λ l. i < length l in
@@ -88,7 +88,7 @@ loop-number-preserved c D stands =
     below_more _ _ (c.loop-number.invariant D stands)
     (elim c.else-not-has.branch [
       | else-not-has-via-then-not-has+else-is_held_by w ↦
-          let row = w.recorded_row.ensures f.0 f.1 ∙ sym (recorded_at p c.requires.known k f.0 [] f.1) in
-          held_no (not (is_marked (reverse c.args.marked.now) k)) (holds_texts (universe_of p) (get_or p.recorded.items k []) D) (sym (w.is_held_by.ensures D stands ∙ ap (λ (x : Sets). holds_texts (universe_of p) x D) row) ∙ w.if-is_held_by.false)
-      | else-not-has-via-else-not-has w ↦ unmarked_no c.args.marked.now k (holds_texts (universe_of p) (get_or p.recorded.items k []) D) (sym c.has.ensures ∙ w.if-not-has.false)
+          let row = w.recorded_row.ensures f.0 f.1 f.2 ∙ sym (recorded_at p c.requires.known k f.0 f.1) in
+          held_no (not (is_marked (reverse c.args.marked.now) k)) (holds_texts (universe_of p) (stored_at p k) D) (sym (w.is_held_by.ensures D stands ∙ ap (λ (x : Sets). holds_texts (universe_of p) x D) row) ∙ w.if-is_held_by.false)
+      | else-not-has-via-else-not-has w ↦ unmarked_no c.args.marked.now k (holds_texts (universe_of p) (stored_at p k) D) (sym c.has.ensures ∙ w.if-not-has.false)
     ])

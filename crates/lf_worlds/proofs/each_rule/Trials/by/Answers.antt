@@ -16,4 +16,5 @@ invariant_of-result c =
       c.in_ok-names.ensures,
       c.labels-labels.ensures.within,
       c.requires.least,
+      c.requires.readings.forks,
     )

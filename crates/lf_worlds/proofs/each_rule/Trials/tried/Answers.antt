@@ -31,3 +31,6 @@ new-uniform-requires-clause-reach c =
 pub new-trials-requires-clause-built : goal.new-trials-requires-clause-built
 new-trials-requires-clause-built c =
     is_built_of c.self.inside.universe.now c.self.inside.env.now c.self.inside.rules.now c.self.inside.prepared.forks.now c.self.inside.prepared c.self.invariant.3 c.args.i c.in_ok-built.built c.in_ok-built.ensures
+
+pub new-trials-requires-clause-forks : goal.new-trials-requires-clause-forks
+new-trials-requires-clause-forks c = c.self.invariant.7

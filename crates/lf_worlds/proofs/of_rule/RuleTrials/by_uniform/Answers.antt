@@ -11,7 +11,7 @@ use Rattle.lf_candidates.specs.views.Told.{AnswersFor}
 use Rattle.lf_built.specs.views.Built.{OfRule}
 use Rattle.lf_uniform.specs.views.Worlds.{Uniform}
 use Rattle.lf_worlds.specs.views.Tried.{AreBelow, IsWorldIfShown, ShownFor}
-use Rattle.lf_worlds.proofs.ShownWorlds.{uniform_below, uniform_if_shown}
+use Rattle.lf_worlds.proofs.ShownTrials.{uniform_below, uniform_if_shown}
 use Rattle.lf_worlds.proofs.of_rule.RuleTrials.by_uniform.Goals as goal
 
 pub world_if_shown-requires-clause-steps : goal.world_if_shown-requires-clause-steps

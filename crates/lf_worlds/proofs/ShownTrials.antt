@@ -17,7 +17,7 @@ use Rattle.lf_trials.specs.Trials.{IsFirstShown, Shows, ShowsBuilt, ShowsUniform
 use Rattle.lf_trials.specs.Uniform.{IsUniform}
 use Rattle.lf_trials.proofs.OneVerdict.{one_built, one_uniform}
 use Rattle.lf_candidates.specs.views.Told.{AnswersFor}
-use Rattle.lf_worlds.specs.views.Tried.{AreBelow, IsGiven, IsSampleShown, IsWorldIfShown, IsWorldShown, ShownFor, first_with}
+use Rattle.lf_worlds.specs.views.Tried.{AreBelow, AreSamplesOf, IsGiven, IsSampleShown, IsWorldIfShown, IsWorldShown, ShownFor, first_with}
 use Rattle.lf_worlds.proofs.Steps.{built_steps, uniform_steps}
 
 module _ (rules : List RuleTree) (i : ℕ) (r : RuleTree) (at : slice_get rules i ≡ Some r) (label : Bytes) (presence : Bool) (trial : Trial) where
@@ -62,6 +62,11 @@ module _ (rules : List RuleTree) (i : ℕ) (r : RuleTree) (at : slice_get rules 
   pub none_after : IsAnswerAfter trial.series (rules_at rules trial.steps) r.expr None → IsSampleShown rules i label presence trial None
   none_after (inl (run, none)) = no_run_shows rules i label presence trial run
   none_after (inr (stored, run, is)) = given_is_shown rules i r at label presence trial stored run None (none_is_given stored r evaluated label presence is)
+
+pub samples_after : (rules : List RuleTree) (i : ℕ) (r : RuleTree) → slice_get rules i ≡ Some r → is_evaluated (type_by_form r.expr) ≡ true → (trial : Trial) (o : Option (List Labels))
+    → IsAnswerAfter trial.series (rules_at rules trial.steps) r.expr o → AreSamplesOf rules i trial o
+samples_after rules i r at evaluated trial (Some samples) is = λ label presence. some_after rules i r at evaluated label presence trial samples is
+samples_after rules i r at evaluated trial None is = λ label presence. none_after rules i r at evaluated label presence trial is
 
 module _ (u : Listing) (env : Environment) (rules : List RuleTree) (i : ℕ) (label : Bytes) (presence : Bool) where
   -- the built world shows what its trial shows
