@@ -8,6 +8,7 @@ pub mod Replacements
 pub mod Times
 pub mod Filtered
 pub mod LastBuckets
+pub mod LosingNames
 pub mod MadeApart
 pub mod ManySide
 pub mod Runs

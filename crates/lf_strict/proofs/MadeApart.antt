@@ -1,17 +1,19 @@
 -- Sets that are made of a set sample by sample, and then put in order.
-use Rattle.std.proofs.Common.{◌≡◌, ◌≢◌, ◌<◌, ◌+◌, ◌⊎◌, inl, inr, Bool, true, false, cond, List, [], ◌∷◌, Option, Some, None, refl, sym, ◌∙◌, subst, arith}
+use Rattle.std.proofs.Common.{◌≡◌, ◌≢◌, ◌<◌, ◌+◌, ◌⊎◌, inl, inr, Bool, true, false, cond, List, [], ◌∷◌, length, Option, Some, None, refl, sym, ◌∙◌, subst, arith}
 use Rattle.std.specs.List.{AllZip, Contains}
 use Rattle.std.specs.Ordering.{eq_by_cmp}
+use Rattle.std.proofs.lemmas.List.Sorted.{IsPermutation-refl}
 use Rattle.lf_laws.proofs.Members.{behind, first_or_behind, here, none_in}
 use Rattle.lf_ast.specs.Labels.{Labels}
 use Rattle.lf_semantics.specs.Evaluation.{AreMade}
 use Rattle.lf_witness.specs.Ascending.{IsAscending, labels_cmp}
 use Rattle.lf_witness.specs.Strict.{AreSame, MadeApart, MadeTogether}
 use Rattle.lf_witness.specs.StrictRuns.{InOrder}
-use Rattle.lf_witness.proofs.AscendingLists.{head_less, less_itself, tail_ascends}
+use Rattle.lf_witness.proofs.AscendingLists.{alone_ascends, head_less, less_itself, tail_ascends}
 use Rattle.lf_strict.specs.views.Apart.{AreApart, times}
-use Rattle.lf_strict.proofs.Times.{counted_member, member_counted}
+use Rattle.lf_strict.proofs.Times.{counted_member, member_counted, none_repeated}
 use Rattle.lf_witness.proofs.Decided.{same_told, told_same}
+use Rattle.lf_witness.proofs.SameSets.{same_itself}
 
 module _ (becomes : Labels → Labels → Type 0) where
   -- what a sample becomes is made
@@ -97,6 +99,23 @@ module _ (becomes : Labels → Labels → Type 0) where
     (are_made P M R z listed.0, λ two. listed.2 (two.2, two_make one P M z two.0 two.1 two.2 two.3 two.4 two.5 two.6 two.7)),
     listed.1,
   )
+
+  -- what is made of one sample alone is in order
+
+  alone : (P M : List Labels) → length P ≡ 1 → AllZip becomes P M → IsAscending M
+  alone [] M one z = absurd (omega (arith, one))
+  alone (p ∷ P) [] one z = absurd z
+  alone (p ∷ []) (m ∷ []) one z = alone_ascends m
+  alone (p ∷ []) (m ∷ n ∷ M) one z = absurd z.1
+  alone (p ∷ q ∷ P) (m ∷ M) one z = absurd (omega (arith, one))
+
+  pub only_apart : ((s t u : Labels) → becomes s t → becomes s u → t ≡ u) → (P M : List Labels) → length P ≡ 1 → IsAscending P → AllZip becomes P M → InOrder (MadeApart becomes P) (Some M)
+  only_apart one P M only ascends z =
+      let made = alone P M only z in
+      made_apart one P M ascends z (Some M) (same_itself M, made, none_repeated M M (IsPermutation-refl M) made)
+
+  pub only_together : (P M : List Labels) → length P ≡ 1 → AllZip becomes P M → InOrder (MadeTogether becomes P) (Some M)
+  only_together P M only z = (are_made P M M z (same_itself M), alone P M only z)
 
   pub made_together : (P M R : List Labels) → AllZip becomes P M → AreSame M R → IsAscending R → InOrder (MadeTogether becomes P) (Some R)
   made_together P M R z same ascends = (are_made P M R z same, ascends)

@@ -3,25 +3,22 @@ use Rattle.std.proofs.Common.{◌≡◌, Bool, List, Option, Some, None, is_some
 use Rattle.lf_ast.specs.Labels.{Labels}
 use Rattle.lf_ast.specs.declared.expr.Matching.{Matching}
 use Rattle.lf_semantics.specs.Grouped.{signs}
-use Rattle.lf_semantics.specs.Texts.{HasTexts, restricted}
+use Rattle.lf_semantics.specs.Texts.{restricted}
 use Rattle.lf_witness.specs.Strict.{HasTwoAlike, MadeApart}
 use Rattle.lf_witness.specs.StrictRuns.{InOrder}
-use Rattle.lf_strict.specs.views.Signed.{TellsApart}
+use Rattle.lf_strict.specs.views.Signed.{IsSignature, TellsApart}
 use Rattle.lf_strict.proofs.Signatures.{one_signature, same_signature}
 
 module _ (m : Matching) (P : List Labels) where
-  abbrev Becomes : Labels → Labels → Type 0
-  Becomes s r = (r ≡ restricted (signs m) s) × HasTexts s
-
-  none_alike : (R : List Labels) → InOrder (MadeApart Becomes P) (Some R) → HasTwoAlike m P → ⊥
+  none_alike : (R : List Labels) → InOrder (MadeApart (IsSignature m) P) (Some R) → HasTwoAlike m P → ⊥
   none_alike R made (s, t, a, b, apart, same) =
       let one = made.0.0.0 s a in
       let other = made.0.0.0 t b in
       made.0.1 (s, t, restricted (signs m) s, a, b, apart, (refl, one.1.1), (one_signature m s t one.1.1 other.1.1 same, other.1.1))
 
-  two_alike : InOrder (MadeApart Becomes P) None → HasTwoAlike m P
+  two_alike : InOrder (MadeApart (IsSignature m) P) None → HasTwoAlike m P
   two_alike (s, t, r, a, b, apart, one, other) = (s, t, a, b, apart, same_signature m s t (sym one.0 ∙ other.0))
 
-  pub tells_apart : (o : Option (List Labels)) (b : Bool) → InOrder (MadeApart Becomes P) o → b ≡ is_some o → TellsApart m P b
+  pub tells_apart : (o : Option (List Labels)) (b : Bool) → InOrder (MadeApart (IsSignature m) P) o → b ≡ is_some o → TellsApart m P b
   tells_apart (Some R) b made is = subst (TellsApart m P) (sym is) (none_alike R made)
   tells_apart None b made is = subst (TellsApart m P) (sym is) (two_alike made)

@@ -1,5 +1,6 @@
 //! Lists of label sets in ascending order, each once.
 ghost use Rattle.std.specs.Prelude.{◌≡◌, ◌+◌, ◌<◌, ℕ, slice_get, true, false, Some};
+ghost use Rattle.std.specs.List.Sorted.{IsPermutation, IsSorted};
 ghost use Rattle.std.specs.Ordering.{eq_by_cmp};
 ghost use Rattle.lf_ast.specs.Labels.{Labels};
 ghost use Rattle.lf_ast.specs.LabelOrder.{labels_cmp};
@@ -11,10 +12,10 @@ use lf_ast::LabelSet;
 use lf_base::Seq;
 
 /// These label sets in ascending order, unless two of them are equal.
-pub fn apart(mut made: Vec<LabelSet>) -> Option<Seq<LabelSet>>
+pub fn apart(made: Vec<LabelSet>) -> Option<Seq<LabelSet>>
     ensures { AreApart made.items result }
 {
-    made.sort_unstable();
+    let made = sorted(made);
     if has_equal_neighbours(made.as_slice()) {
         None
     } else {
@@ -23,13 +24,24 @@ pub fn apart(mut made: Vec<LabelSet>) -> Option<Seq<LabelSet>>
 }
 
 /// These label sets in ascending order, of which equal ones count once.
-pub fn together(mut made: Vec<LabelSet>) -> Seq<LabelSet>
+pub fn together(made: Vec<LabelSet>) -> Seq<LabelSet>
     ensures same { AreSame made.items result }
     ensures ascends { IsAscending result }
 {
-    made.sort_unstable();
+    let mut made = sorted(made);
     made.dedup();
     Seq::from_vec(made)
+}
+
+/// These label sets in order. Most often there is one.
+fn sorted(mut made: Vec<LabelSet>) -> Vec<LabelSet>
+    ensures permutation { IsPermutation made.items result.items }
+    ensures sorted { IsSorted labels_cmp result.items }
+{
+    if made.len() > 1 {
+        made.sort_unstable();
+    }
+    made
 }
 
 /// Whether two label sets that stand beside one another are equal.

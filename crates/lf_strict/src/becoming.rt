@@ -1,5 +1,5 @@
 //! Sets that are made of a set sample by sample.
-ghost use Rattle.std.specs.Prelude.{◌≡◌, IfOk, Some};
+ghost use Rattle.std.specs.Prelude.{◌≡◌, IfOk, Some, length};
 ghost use Rattle.std.specs.List.{AllZip};
 ghost use Rattle.lf_ast.specs.Labels.{Labels};
 ghost use Rattle.lf_witness.specs.Ascending.{IsAscending};
@@ -17,23 +17,26 @@ pub trait Becoming {
     ghost becomes: { Self → Labels → Labels → Type 0 };
 
     /// What a sample becomes.
-    fn of(&self, alloc: Global, sample: &LabelSet) -> Result<LabelSet, Memory>
-        ensures { IfOk result (λ made. becomes self.now sample.now made) };
+    fn of(&self, alloc: Global, sample: LabelSet) -> Result<LabelSet, Memory>
+        ensures { IfOk result (λ made. becomes self.now sample made) };
 
     /// It is one.
     ghost one: { (how : Self) (s t u : Labels) → becomes how s t → becomes how s u → t ≡ u };
 }
 
-/// What the samples become, in ascending order, and None where two become one.
+/// What the samples become, in ascending order, and None where two become one. Most sets have one sample, which isn't put in order.
 pub fn made_apart<B: Becoming>(
     alloc: Global,
     how: &B,
-    samples: &Seq<LabelSet>,
+    samples: Seq<LabelSet>,
 ) -> Result<Option<Seq<LabelSet>>, Memory>
-    requires { IsAscending samples.now }
-    ensures { IfOk result (InOrder (MadeApart (B.becomes how.now) samples.now)) }
+    requires { IsAscending samples }
+    ensures { IfOk result (InOrder (MadeApart (B.becomes how.now) samples)) }
 {
-    let made = each_made(alloc, how, samples.as_slice())?;
+    if samples.len() == 1 {
+        return Ok(Some(only_made(alloc, how, samples)?));
+    }
+    let made = each_made(alloc, how, samples)?;
     Ok(apart(made))
 }
 
@@ -41,25 +44,44 @@ pub fn made_apart<B: Becoming>(
 pub fn made_together<B: Becoming>(
     alloc: Global,
     how: &B,
-    samples: &Seq<LabelSet>,
+    samples: Seq<LabelSet>,
 ) -> Result<Seq<LabelSet>, Memory>
-    ensures { IfOk result (λ set. InOrder (MadeTogether (B.becomes how.now) samples.now) (Some set)) }
+    ensures { IfOk result (λ set. InOrder (MadeTogether (B.becomes how.now) samples) (Some set)) }
 {
-    let made = each_made(alloc, how, samples.as_slice())?;
+    if samples.len() == 1 {
+        return only_made(alloc, how, samples);
+    }
+    let made = each_made(alloc, how, samples)?;
     Ok(together(made))
+}
+
+/// What the only sample becomes, in its place.
+fn only_made<B: Becoming>(
+    alloc: Global,
+    how: &B,
+    mut samples: Seq<LabelSet>,
+) -> Result<Seq<LabelSet>, Memory>
+    requires { length samples ≡ 1 }
+    ensures { IfOk result (AllZip (B.becomes how.now) samples) }
+{
+    if let Some(sample) = samples.pop() {
+        samples.push(how.of(alloc, sample)?)?;
+    }
+    Ok(samples)
 }
 
 /// What each sample becomes.
 fn each_made<B: Becoming>(
     alloc: Global,
     how: &B,
-    samples: &[LabelSet],
+    mut samples: Seq<LabelSet>,
 ) -> Result<Vec<LabelSet>, Memory>
-    ensures { IfOk result (λ made. AllZip (B.becomes how.now) samples.now made.items) }
+    ensures { IfOk result (λ made. AllZip (B.becomes how.now) samples made.items) }
 {
     let mut made = Vec::with_capacity(alloc, samples.len())?;
-    for sample in samples {
+    while let Some(sample) = samples.pop() {
         made.push(how.of(alloc, sample)?)?;
     }
+    made.reverse();
     Ok(made)
 }

@@ -21,7 +21,7 @@ impl Becoming for Unbucketed {
 
     ghost one = { λ how s t u a b. a ∙ sym b };
 
-    fn of(&self, alloc: Global, sample: &LabelSet) -> Result<LabelSet, Memory> {
+    fn of(&self, alloc: Global, sample: LabelSet) -> Result<LabelSet, Memory> {
         sample.kept(&AllButNameAndBucket)
     }
 }

@@ -48,14 +48,14 @@ fn effect(
     ensures { (W : List Labels) (e : Tree) → IsStrictAnswer W e operand → IfOk result (InOrder (StrictEffect effect grouping.now (trees args.now) (StrictlyEvaluates W e))) }
 {
     match effect {
-        LabelEffect::Maps => operand_apart(alloc, &Nameless, &operand),
+        LabelEffect::Maps => operand_apart(alloc, &Nameless, operand),
         LabelEffect::Keeps => Ok(operand),
-        LabelEffect::Groups => operand_together(alloc, &Grouped { grouping }, &operand),
-        LabelEffect::CountValues => count_values(alloc, grouping, args, &operand),
-        LabelEffect::Date => date(alloc, args, &operand),
+        LabelEffect::Groups => operand_together(alloc, &Grouped { grouping }, operand),
+        LabelEffect::CountValues => count_values(alloc, grouping, args, operand),
+        LabelEffect::Date => date(alloc, args, operand),
         LabelEffect::Absent => absent(alloc, args, &operand),
         LabelEffect::LabelReplace => replaced(alloc, args, &operand),
-        LabelEffect::LabelJoin => operand_apart(alloc, &Joined { args }, &operand),
+        LabelEffect::LabelJoin => operand_apart(alloc, &Joined { args }, operand),
         LabelEffect::HistogramQuantile => quantile(alloc, &operand),
         LabelEffect::Bare => Ok(Some(bare(alloc)?)),
     }
@@ -66,9 +66,9 @@ fn count_values(
     alloc: Global,
     grouping: &Grouping,
     args: &[Expr],
-    operand: &Option<Seq<LabelSet>>,
+    operand: Option<Seq<LabelSet>>,
 ) -> Result<Option<Seq<LabelSet>>, Memory>
-    ensures { (W : List Labels) (e : Tree) → IsStrictAnswer W e operand.now → IfOk result (InOrder (From (StrictlyEvaluates W e) (MadeTogether (IsCountedAsOne grouping.now (text_at (texts_of (trees args.now)) 0))))) }
+    ensures { (W : List Labels) (e : Tree) → IsStrictAnswer W e operand → IfOk result (InOrder (From (StrictlyEvaluates W e) (MadeTogether (IsCountedAsOne grouping.now (text_at (texts_of (trees args.now)) 0))))) }
 {
     let label = Text::of(alloc, text_at(args, 0))?;
     operand_together(
@@ -85,10 +85,10 @@ fn count_values(
 fn date(
     alloc: Global,
     args: &[Expr],
-    operand: &Option<Seq<LabelSet>>,
+    operand: Option<Seq<LabelSet>>,
 ) -> Result<Option<Seq<LabelSet>>, Memory>
-    requires { IfSome operand.now IsAscending }
-    ensures { (W : List Labels) (e : Tree) → IsStrictAnswer W e operand.now → IfOk result (InOrder (StrictDate (trees args.now) (StrictlyEvaluates W e))) }
+    requires { IfSome operand IsAscending }
+    ensures { (W : List Labels) (e : Tree) → IsStrictAnswer W e operand → IfOk result (InOrder (StrictDate (trees args.now) (StrictlyEvaluates W e))) }
 {
     match args {
         [] => Ok(Some(bare(alloc)?)),

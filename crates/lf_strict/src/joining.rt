@@ -25,17 +25,16 @@ impl<'a> Becoming for Joined<'a> {
 
     ghost one = { λ how s t u a b. a ∙ sym b };
 
-    fn of(&self, alloc: Global, sample: &LabelSet) -> Result<LabelSet, Memory> {
+    fn of(&self, alloc: Global, mut sample: LabelSet) -> Result<LabelSet, Memory> {
         let target = Text::of(alloc, text_at(self.args, 1))?;
         let text = joined_texts(
             alloc,
-            sample,
+            &sample,
             text_at(self.args, 2),
             joined_sources(self.args),
         )?;
-        let mut made = sample.copy()?;
-        made.set(&target, &text)?;
-        Ok(made)
+        sample.set(&target, &text)?;
+        Ok(sample)
     }
 }
 

@@ -18,6 +18,7 @@ mod pairs;
 mod partners;
 mod replacing;
 mod running;
+mod same_signature;
 mod sample_set;
 mod samples;
 mod selecting;

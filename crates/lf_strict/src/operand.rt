@@ -18,10 +18,10 @@ use std::alloc::Global;
 pub fn operand_apart<B: Becoming>(
     alloc: Global,
     how: &B,
-    operand: &Option<Seq<LabelSet>>,
+    operand: Option<Seq<LabelSet>>,
 ) -> Result<Option<Seq<LabelSet>>, Memory>
-    requires { IfSome operand.now IsAscending }
-    ensures { (W : List Labels) (e : Tree) → IsStrictAnswer W e operand.now → IfOk result (InOrder (From (StrictlyEvaluates W e) (MadeApart (B.becomes how.now)))) }
+    requires { IfSome operand IsAscending }
+    ensures { (W : List Labels) (e : Tree) → IsStrictAnswer W e operand → IfOk result (InOrder (From (StrictlyEvaluates W e) (MadeApart (B.becomes how.now)))) }
 {
     match operand {
         Some(samples) => made_apart(alloc, how, samples),
@@ -33,9 +33,9 @@ pub fn operand_apart<B: Becoming>(
 pub fn operand_together<B: Becoming>(
     alloc: Global,
     how: &B,
-    operand: &Option<Seq<LabelSet>>,
+    operand: Option<Seq<LabelSet>>,
 ) -> Result<Option<Seq<LabelSet>>, Memory>
-    ensures { (W : List Labels) (e : Tree) → IsStrictAnswer W e operand.now → IfOk result (InOrder (From (StrictlyEvaluates W e) (MadeTogether (B.becomes how.now)))) }
+    ensures { (W : List Labels) (e : Tree) → IsStrictAnswer W e operand → IfOk result (InOrder (From (StrictlyEvaluates W e) (MadeTogether (B.becomes how.now)))) }
 {
     match operand {
         Some(samples) => Ok(Some(made_together(alloc, how, samples)?)),
@@ -53,7 +53,7 @@ pub fn behind_sign(
     ensures { (W : List Labels) (e : Tree) → IsStrictAnswer W e operand → IfOk result (InOrder (StrictSign minus (StrictlyEvaluates W e))) }
 {
     if minus {
-        operand_apart(alloc, &Nameless, &operand)
+        operand_apart(alloc, &Nameless, operand)
     } else {
         Ok(operand)
     }
@@ -71,7 +71,7 @@ pub fn beside_scalar(
     if filter {
         Ok(operand)
     } else {
-        operand_apart(alloc, &Nameless, &operand)
+        operand_apart(alloc, &Nameless, operand)
     }
 }
 
@@ -86,7 +86,7 @@ pub fn quantile(
     match operand {
         Some(samples) => {
             let last = last_buckets(alloc, samples.as_slice())?;
-            made_apart(alloc, &Unbucketed, &last)
+            made_apart(alloc, &Unbucketed, last)
         }
         None => Ok(None),
     }

@@ -4,10 +4,11 @@ ghost use Rattle.std.specs.List.{Contains, flat_map};
 ghost use Rattle.lf_ast.specs.Labels.{Labels};
 ghost use Rattle.lf_semantics.specs.Texts.{HasTexts};
 ghost use Rattle.lf_witness.specs.Ascending.{IsAscending};
-ghost use Rattle.lf_strict.specs.views.Paired.{AreIndexed, signature_of, with_one, with_only};
+ghost use Rattle.lf_strict.specs.views.Paired.{AreIndexed, with_one, with_only};
 
 use crate::choosing::SignatureLabels;
 use crate::pair_labels::pair_result;
+use crate::same_signature::have_same_signature;
 use lf_ast::{LabelSet, Matching, Op};
 use lf_base::Memory;
 use std::alloc::Global;
@@ -84,10 +85,9 @@ pub fn each_with(
     ensures one { IfOk result (λ made. HasTexts one.now) }
 {
     let _count = one.len();
-    let signature = one.kept(&SignatureLabels { matching })?;
     let mut made = Vec::with_capacity(alloc, many.len())?;
     for sample in many {
-        push_with(op, matching, sample, one, &signature, alloc, &mut made)?;
+        push_with(op, matching, sample, one, alloc, &mut made)?;
     }
     Ok(made)
 }
@@ -98,17 +98,14 @@ fn push_with(
     matching: &Matching,
     sample: &LabelSet,
     one: &LabelSet,
-    signature: &LabelSet,
     alloc: Global,
     made: &mut Vec<LabelSet>,
 ) -> Result<(), Memory>
-    requires { signature.now ≡ signature_of matching.now one.now }
     ensures made { OnOk result (made.new.items ≡ made.old.items ++ with_only op matching.now one.now sample.now) }
     ensures texts { OnOk result (HasTexts sample.now) }
 {
     let _count = sample.len();
-    let own = sample.kept(&SignatureLabels { matching })?;
-    if own == *signature {
+    if have_same_signature(matching, sample, one) {
         made.push(pair_result(alloc, op, matching, sample, one)?)?;
     }
     Ok(())

@@ -4,7 +4,7 @@ ghost use Rattle.lf_semantics.specs.Evaluation.{IsGrouped, LosesName};
 ghost use Rattle.lf_witness.specs.Strict.{IsCountedAsOne};
 
 use crate::becoming::Becoming;
-use crate::choosing::{AllButName, GroupLabels};
+use crate::choosing::GroupLabels;
 use lf_ast::{Grouping, LabelSet};
 use lf_base::{Memory, Text};
 use std::alloc::Global;
@@ -18,8 +18,10 @@ impl Becoming for Nameless {
 
     ghost one = { λ how s t u a b. a ∙ sym b };
 
-    fn of(&self, alloc: Global, sample: &LabelSet) -> Result<LabelSet, Memory> {
-        sample.kept(&AllButName)
+    fn of(&self, alloc: Global, mut sample: LabelSet) -> Result<LabelSet, Memory> {
+        let metric = Text::of(alloc, "__name__")?;
+        sample.set(&metric, &Text::of(alloc, "")?)?;
+        Ok(sample)
     }
 }
 
@@ -34,7 +36,7 @@ impl<'a> Becoming for Grouped<'a> {
 
     ghost one = { λ how s t u a b. a ∙ sym b };
 
-    fn of(&self, alloc: Global, sample: &LabelSet) -> Result<LabelSet, Memory> {
+    fn of(&self, alloc: Global, sample: LabelSet) -> Result<LabelSet, Memory> {
         let grouping = self.grouping;
         sample.kept(&GroupLabels { grouping })
     }
@@ -52,7 +54,7 @@ impl<'a> Becoming for CountedAsOne<'a> {
 
     ghost one = { λ how s t u a b. a ∙ sym b };
 
-    fn of(&self, alloc: Global, sample: &LabelSet) -> Result<LabelSet, Memory> {
+    fn of(&self, alloc: Global, sample: LabelSet) -> Result<LabelSet, Memory> {
         let grouping = self.grouping;
         let mut group = sample.kept(&GroupLabels { grouping })?;
         group.set(self.label, &Text::of(alloc, "1")?)?;

@@ -1,40 +1,42 @@
 //! Signatures of vector matching.
 ghost use Rattle.std.specs.Prelude.{◌≡◌, ◌++◌, IfOk, OnOk, Some};
 ghost use Rattle.std.specs.FinMap.{entries};
-ghost use Rattle.std.specs.List.{Contains, filter};
-ghost use Rattle.std.proofs.Common.{sym, ◌∙◌};
+ghost use Rattle.std.specs.List.{AllZip, Contains, filter};
 ghost use Rattle.lf_ast.specs.Labels.{HasNoEmptyText, Labels};
 ghost use Rattle.lf_semantics.specs.Evaluation.{AreEither};
-ghost use Rattle.lf_semantics.specs.Grouped.{signs};
-ghost use Rattle.lf_semantics.specs.Texts.{HasTexts, restricted};
+ghost use Rattle.lf_semantics.specs.Texts.{HasTexts};
 ghost use Rattle.lf_witness.specs.Ascending.{IsAscending};
 ghost use Rattle.lf_witness.specs.Strict.{IsSet};
 ghost use Rattle.lf_witness.specs.StrictRuns.{InOrder};
-ghost use Rattle.lf_strict.specs.views.Signed.{ArePartnered, TellsApart, is_one_of, is_signed};
+ghost use Rattle.lf_strict.specs.views.Signed.{ArePartnered, IsSignature, TellsApart, is_one_of, is_signed};
 
-use crate::apart::together;
-use crate::becoming::{Becoming, made_apart, made_together};
+use crate::apart::{apart, together};
 use crate::choosing::SignatureLabels;
 use lf_ast::{LabelSet, Matching};
 use lf_base::{Memory, Seq};
 use std::alloc::Global;
 
-/// A sample becomes its signature: the labels that are matched, with their texts. No text of a sample is empty, so equal signatures are one label set.
-#[derive(Drop)]
-pub struct Signed<'a> {
-    pub matching: &'a Matching,
+/// The signature of each sample.
+fn each_signature(
+    alloc: Global,
+    matching: &Matching,
+    samples: &[LabelSet],
+) -> Result<Vec<LabelSet>, Memory>
+    ensures { IfOk result (λ made. AllZip (IsSignature matching.now) samples.now made.items) }
+{
+    let mut made = Vec::with_capacity(alloc, samples.len())?;
+    for sample in samples {
+        made.push(signature(matching, sample)?)?;
+    }
+    Ok(made)
 }
 
-impl<'a> Becoming for Signed<'a> {
-    ghost becomes = { λ how s r. (r ≡ restricted (signs how.matching.now) s) × HasTexts s };
-
-    ghost one = { λ how s t u a b. a.0 ∙ sym b.0 };
-
-    fn of(&self, alloc: Global, sample: &LabelSet) -> Result<LabelSet, Memory> {
-        let _count = sample.len();
-        let matching = self.matching;
-        sample.kept(&SignatureLabels { matching })
-    }
+/// The signature of a sample: the labels that are matched, with their texts. No text of a sample is empty, so equal signatures are one label set.
+fn signature(matching: &Matching, sample: &LabelSet) -> Result<LabelSet, Memory>
+    ensures { IfOk result (IsSignature matching.now sample.now) }
+{
+    let _count = sample.len();
+    sample.kept(&SignatureLabels { matching })
 }
 
 /// Whether no two of the samples have equal signatures.
@@ -49,8 +51,8 @@ pub fn are_apart(
     if samples.len() < 2 {
         return Ok(true);
     }
-    let made = made_apart(alloc, &Signed { matching }, samples)?;
-    Ok(made.is_some())
+    let made = each_signature(alloc, matching, samples.as_slice())?;
+    Ok(apart(made).is_some())
 }
 
 /// The left samples that have a partner on the right, or those that have none where that is wanted, in ascending order.
@@ -64,7 +66,7 @@ pub fn by_partner(
     requires { IsAscending left.now }
     ensures { IfOk result (λ set. InOrder (IsSet (ArePartnered wanted matching.now left.now right.now)) (Some set)) }
 {
-    let signatures = made_together(alloc, &Signed { matching }, right)?;
+    let signatures = together(each_signature(alloc, matching, right.as_slice())?);
     with_signature(
         alloc,
         matching,

@@ -5,10 +5,10 @@ ghost use Rattle.lf_witness.specs.Ascending.{IsAscending};
 ghost use Rattle.lf_witness.specs.StrictRuns.{InOrder, IsRuleAnswer, StepAdds, StoredOf};
 ghost use Rattle.lf_strict.specs.views.Running.{IsStep};
 
-use crate::apart::apart;
+use crate::becoming::made_apart;
 use crate::evaluating::evaluated;
 use crate::store::Store;
-use crate::storing::each_stored;
+use crate::storing::Stored;
 use lf_ast::{LabelSet, Rule};
 use lf_base::{Memory, Seq};
 use lf_nodes::is_rule_type;
@@ -49,7 +49,7 @@ fn stored(
     if rule.alert {
         Ok(Some(Seq::new(alloc)))
     } else {
-        Ok(apart(each_stored(alloc, rule, samples)?))
+        made_apart(alloc, &Stored { rule }, samples)
     }
 }
 

@@ -1,12 +1,12 @@
 -- Samples whose signature is one of some signatures, and samples that their signatures tell apart.
-use Rattle.std.specs.Prelude.{Bool, true, false, cond, not, List}
+use Rattle.std.specs.Prelude.{◌≡◌, Bool, true, false, cond, not, List}
 use Rattle.std.specs.List.{list_any}
 use Rattle.std.specs.Ordering.{eq_by_cmp}
 use Rattle.lf_ast.specs.Labels.{Labels}
 use Rattle.lf_ast.specs.declared.expr.Matching.{Matching}
 use Rattle.lf_semantics.specs.Evaluation.{AreMatched, AreUnmatched}
 use Rattle.lf_semantics.specs.Grouped.{signs}
-use Rattle.lf_semantics.specs.Texts.{restricted}
+use Rattle.lf_semantics.specs.Texts.{HasTexts, restricted}
 use Rattle.lf_witness.specs.Ascending.{labels_cmp}
 use Rattle.lf_witness.specs.Strict.{HasTwoAlike}
 
@@ -27,3 +27,7 @@ ArePartnered false = AreUnmatched
 abbrev pub TellsApart : Matching → List Labels → Bool → Type 0
 TellsApart m P true = HasTwoAlike m P → ⊥
 TellsApart m P false = HasTwoAlike m P
+
+-- the signature of a sample, none of whose texts is empty
+abbrev pub IsSignature : Matching → Labels → Labels → Type 0
+IsSignature m s r = (r ≡ restricted (signs m) s) × HasTexts s

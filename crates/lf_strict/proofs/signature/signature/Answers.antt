@@ -1,7 +1,7 @@
 use Rattle.std.proofs.Common.{Result, Ok, Err}
 use Rattle.std.specs.Prelude.{IfOk}
 use Rattle.lf_strict.proofs.Signatures.{has_texts}
-use Rattle.lf_strict.proofs.signature.SignedBecoming.of.Goals as goal
+use Rattle.lf_strict.proofs.signature.signature.Goals as goal
 
 both : {X E : Type 0} (P : X → Type 0) (C : Type 0) (r : Result X E) → IfOk r P → C → IfOk r (λ x. P x × C)
 both P C (Ok x) p c = (p, c)
