@@ -19,11 +19,12 @@ use Rattle.lf_trials.specs.Built.{fits}
 use Rattle.lf_trials.specs.Candidates.{labels_in}
 use Rattle.lf_trials.specs.Given.{Given, holds_texts}
 use Rattle.lf_trials.specs.Reached.{first_rule, is_marked}
+use Rattle.lf_candidates.specs.views.Packed.{PackedRow, no_row}
 use Rattle.lf_built.specs.declared.prepared.Prepared.{Prepared}
 use Rattle.lf_built.specs.views.Fitting.{IsFirstRule}
 use Rattle.lf_built.specs.views.Indexed.{IsPrepared, env_of, forks_of, trees_of, universe_of}
 use Rattle.lf_built.specs.views.Marking.{set_by}
-use Rattle.lf_built.specs.views.PartRows.{PartRows, part_rows}
+use Rattle.lf_built.specs.views.PartRows.{PartRows, packed_row, part_rows}
 use Rattle.lf_built.specs.views.RuleRows.{IsStored, own_or}
 use Rattle.lf_built.proofs.OwnRows.{as_many, begins, side_by_side}
 use Rattle.lf_built.proofs.FirstRules.{first_is, found_at, none_at}
@@ -50,12 +51,12 @@ module _ (p : Prepared) (known : IsPrepared p) where
   pub stored_told : (k : ℕ) (r : RuleTree) (kept : Option Sets) → slice_get (trees_of p) k ≡ Some r → kept ≡ get_or p.recorded.items k kept → Stored r kept
   stored_told k r kept is there = side_by_side Stored (trees_of p) p.recorded.items k r kept known.recorded is there
 
-  told_at : (k : ℕ) (r : RuleTree) (x : PartRows) → slice_get (trees_of p) k ≡ Some r → x ≡ get_or p.parts.items k x → x.rows ≡ row_of (universe_of p) (env_of p) r.expr ∷ map (row_of (universe_of p) (env_of p)) (flat_map nodes (parts_of r.expr))
+  told_at : (k : ℕ) (r : RuleTree) (x : PartRows) → slice_get (trees_of p) k ≡ Some r → x ≡ get_or p.parts.items k x → x.rows ≡ packed_row (universe_of p) (env_of p) r.expr ∷ map (packed_row (universe_of p) (env_of p)) (flat_map nodes (parts_of r.expr))
   told_at k r x is e =
       let Told : RuleTree → PartRows = λ (t : RuleTree). part_rows (universe_of p) (env_of p) (forks_of p) (nodes t.expr) in
       let told : x ≡ Told r =
       e ∙ ap (λ (xs : List PartRows). get_or xs k x) known.parts ∙ get_or-map Told (trees_of p) k r x (slice_get_within (trees_of p) k r is) ∙ ap Told (get_or_from_slice_get (trees_of p) k r r is) in
-      begins (universe_of p) (env_of p) r.expr x.rows (ap (λ (y : PartRows). y.rows) told)
+      begins (packed_row (universe_of p) (env_of p)) r.expr x.rows (ap (λ (y : PartRows). y.rows) told)
 
   pub row_within : (k : ℕ) (r : RuleTree) (x : PartRows) → slice_get (trees_of p) k ≡ Some r → x ≡ get_or p.parts.items k x → 0 < length x.rows
   row_within k r x is e = omega (arith, ap length (told_at k r x is e))
@@ -67,11 +68,11 @@ module _ (p : Prepared) (known : IsPrepared p) where
   pub own_there : length p.rows.items ≡ length (trees_of p)
   own_there = as_many IsOwn (trees_of p) p.rows.items known.rows
 
-  pub row_at : (k : ℕ) (r : RuleTree) (x : PartRows) (own : Option Sets) → slice_get (trees_of p) k ≡ Some r → x ≡ get_or p.parts.items k x → own ≡ get_or p.rows.items k own
-      → own_or own (get_or x.rows 0 []) ≡ rule_row (universe_of p) (env_of p) r
-  row_at k r x own is e there =
-      ap (λ (rows : List Sets). own_or own (get_or rows 0 [])) (told_at k r x is e)
-      ∙ side_by_side IsOwn (trees_of p) p.rows.items k r own known.rows is there
+  pub first_row : (k : ℕ) (r : RuleTree) (x : PartRows) → slice_get (trees_of p) k ≡ Some r → x ≡ get_or p.parts.items k x → get_or x.rows 0 no_row ≡ packed_row (universe_of p) (env_of p) r.expr
+  first_row k r x is e = ap (λ (rows : List PackedRow). get_or rows 0 no_row) (told_at k r x is e)
+
+  pub own_at : (k : ℕ) (r : RuleTree) (own : Option Sets) → slice_get (trees_of p) k ≡ Some r → own ≡ get_or p.rows.items k own → IsOwn r own
+  own_at k r own is there = side_by_side IsOwn (trees_of p) p.rows.items k r own known.rows is there
 
   pub set_at : (k : ℕ) (r : RuleTree) (d : List Bool) → slice_get (trees_of p) k ≡ Some r → get_or p.set.items k d ≡ set_by (labels_in (universe_of p)) r
   set_at k r d is =

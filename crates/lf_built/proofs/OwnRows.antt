@@ -14,8 +14,8 @@ use Rattle.lf_built.specs.views.RuleRows.{own_or}
 use Rattle.lf_built.proofs.Places.{of_parts}
 
 -- the rows of an expression and its parts begin with its own
-pub begins : (u : Listing) (e : Environment) (t : Tree) (rows : List Sets) → rows ≡ map (row_of u e) (nodes t) → rows ≡ row_of u e t ∷ map (row_of u e) (flat_map nodes (parts_of t))
-begins u e t rows is = is ∙ ap (map (row_of u e)) (of_parts t)
+pub begins : {X : Type 0} (row : Tree → X) (t : Tree) (rows : List X) → rows ≡ map row (nodes t) → rows ≡ row t ∷ map row (flat_map nodes (parts_of t))
+begins row t rows is = is ∙ ap (map row) (of_parts t)
 
 -- a row that isn't empty is that of the whole expression
 

@@ -85,24 +85,23 @@ module _ (p : Prepared) (e : Tree) where
   pub one_part : (k : ℕ) (spot : Spot) (texts : List (Option ℕ)) (D : Given) → IsPartSpot (trees_of p) (slice_get (parts_of e) k) (Some spot) → Stands (universe_of p) texts D → AreParts p e (one_wanted D (slice_get (parts_of e) k)) (Some (P.One spot texts))
   one_part k spot texts D is stands = one_in (slice_get (parts_of e) k) spot texts D is stands (λ x there. let a = size_of_part (parts_of e) k x there in let b = size_is e in omega (arith, a, b))
 
-  module _ (op : Op) (m : Matching) (left right : Spot) (lrow rrow : Sets) (D : Given) (is_left_row : lrow ≡ row_of (universe_of p) (env_of p) (tree_at left)) (is_right_row : rrow ≡ row_of (universe_of p) (env_of p) (tree_at right)) where
-    abbrev pub AreOf : Sets → Sets → Option Sides → Type 0
-    AreOf l r sides = AreSides (universe_of p) (has_signature (universe_of p) op m l r D) (side (universe_of p) (left_gives op m) op m l r D) (side (universe_of p) (right_gives op m) op m l r D) sides
+  module _ (op : Op) (m : Matching) (left right : Spot) (D : Given) where
+    abbrev l : Sets
+    l = row_of (universe_of p) (env_of p) (tree_at left)
+
+    abbrev r : Sets
+    r = row_of (universe_of p) (env_of p) (tree_at right)
+
+    abbrev pub AreOf : Option Sides → Type 0
+    AreOf sides = AreSides (universe_of p) (has_signature (universe_of p) op m l r D) (side (universe_of p) (left_gives op m) op m l r D) (side (universe_of p) (right_gives op m) op m l r D) sides
 
     -- what is wanted of both sides
     abbrev wants : Option (List Wanted)
-    wants =
-        let l : Sets = row_of (universe_of p) (env_of p) (tree_at left) in
-        let r : Sets = row_of (universe_of p) (env_of p) (tree_at right) in
-        Some (want (tree_at left) (side (universe_of p) (left_gives op m) op m l r D) ∷ want (tree_at right) (side (universe_of p) (right_gives op m) op m l r D) ∷ [])
+    wants = Some (want (tree_at left) (side (universe_of p) (left_gives op m) op m l r D) ∷ want (tree_at right) (side (universe_of p) (right_gives op m) op m l r D) ∷ [])
 
-    own : (sides : Option Sides) → AreOf lrow rrow sides → AreOf (row_of (universe_of p) (env_of p) (tree_at left)) (row_of (universe_of p) (env_of p) (tree_at right)) sides
-    own sides are = subst (λ (r : Sets). AreOf (row_of (universe_of p) (env_of p) (tree_at left)) r sides) is_right_row (subst (λ (l : Sets). AreOf l rrow sides) is_left_row are)
-
-    pub both_sides : (sides : Sides) → IsSpot (trees_of p) left → IsSpot (trees_of p) right → parts_of e ≡ tree_at left ∷ tree_at right ∷ [] → AreOf lrow rrow (Some sides)
+    pub both_sides : (sides : Sides) → IsSpot (trees_of p) left → IsSpot (trees_of p) right → parts_of e ≡ tree_at left ∷ tree_at right ∷ [] → AreOf (Some sides)
         → AreParts p e (match_wanted (universe_of p) (env_of p) op m (tree_at left) (tree_at right) D) (Some (P.Both left sides.left right sides.right))
     both_sides sides is_left is_right parts are =
-        let mine = own (Some sides) are in
         let a : sum_by size (parts_of e) ≡ size (tree_at left) + (size (tree_at right) + 0) =
         ap (sum_by size) parts ∙ sum_by-cons size (tree_at left) (tree_at right ∷ []) ∙ ap (λ n. size (tree_at left) + n) (sum_by-cons size (tree_at right) []) in
         let b = size_is e in
@@ -110,10 +109,10 @@ module _ (p : Prepared) (e : Tree) where
         let second = Rattle.lf_built.specs.declared.work.Pending.TheVariants.Visit right sides.right in
         let d = sum_by-cons weight first (second ∷ []) in
         let f = sum_by-cons weight second [] in
-        subst (λ (h : Bool). AreParts p e (cond h wants None) (Some (P.Both left sides.left right sides.right))) (sym mine.0) ((is_left, refl, mine.1, (is_right, refl, mine.2, tt)), omega (arith, a, b, d, f))
+        subst (λ (h : Bool). AreParts p e (cond h wants None) (Some (P.Both left sides.left right sides.right))) (sym are.0) ((is_left, refl, are.1, (is_right, refl, are.2, tt)), omega (arith, a, b, d, f))
 
-    pub no_sides : AreOf lrow rrow None → AreParts p e (match_wanted (universe_of p) (env_of p) op m (tree_at left) (tree_at right) D) None
-    no_sides are = subst (λ (h : Bool). AreParts p e (cond h wants None) None) (sym (own None are)) tt
+    pub no_sides : AreOf None → AreParts p e (match_wanted (universe_of p) (env_of p) op m (tree_at left) (tree_at right) D) None
+    no_sides are = subst (λ (h : Bool). AreParts p e (cond h wants None) None) (sym are) tt
 
   -- what is wanted where parts are
   pub some_parts : (wanted : Option (List Wanted)) (parts : WantedParts) → AreParts p e wanted (Some parts) → (ws : List Wanted) × (wanted ≡ Some ws) × AreTasks p (tasks_of parts) (map Visit ws) × (sum_by weight (tasks_of parts) + 1 ≤ size e)

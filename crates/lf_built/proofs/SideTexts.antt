@@ -1,5 +1,5 @@
 -- The texts that the sides of a match get, label by label.
-use Rattle.std.proofs.Common.{◌≡◌, ℕ, Bool, true, false, not, ◌&&◌, ◌||◌, cond, Option, Some, None, refl, sym, ◌∙◌, ap, subst}
+use Rattle.std.proofs.Common.{◌≡◌, ℕ, Bool, true, false, not, ◌&&◌, ◌||◌, cond, Option, Some, None, Result, Ok, Err, IfOk, refl, sym, ◌∙◌, ap, subst}
 use Rattle.std.specs.Prelude.{is_some, option_map}
 use Rattle.std.specs.Option.{option_or}
 use Rattle.lf_ast.specs.Labels.{Bytes}
@@ -35,10 +35,12 @@ module _ (u : Listing) (op : Op) (m : Matching) (left right : Sets) (D : Given) 
       (subst (IsClass u label) e at.0, ap (λ (o : Option Bytes). option_or o common) (at.1 ∙ ap (option_map (text_at u label)) e))
 
   -- and else what is found
-  pub signature_found : (dropped : Bool) (class found : Option ℕ) → dropped ≡ drops op m name → StandsAt u label class D → cond dropped None class ≡ None → IsClass u label found → option_map (text_at u label) found ≡ common → StandsAt u label found E
-  signature_found dropped class found is stands e own common_is =
+  pub signature_found : {E : Type 0} (dropped : Bool) (class : Option ℕ) (found : Result (Option ℕ) E) → dropped ≡ drops op m name → StandsAt u label class D → cond dropped None class ≡ None
+      → IfOk found (IsClass u label) → IfOk found (λ o. option_map (text_at u label) o ≡ common) → IfOk found (λ o. StandsAt u label o (signature_text u op m left right D))
+  signature_found dropped class (Ok found) is stands e own common_is =
       let at = kept dropped class is stands in
       (own, ap (λ (o : Option Bytes). option_or o common) (at.1 ∙ ap (option_map (text_at u label)) e) ∙ sym common_is)
+  signature_found dropped class (Err error) is stands e own common_is = tt
 
   -- a side
   pub side_stands : (gives : Bytes → Bool) (class signature : Option ℕ) → StandsAt u label class D → (signs m name ≡ true → StandsAt u label signature E)

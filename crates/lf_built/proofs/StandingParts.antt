@@ -1,5 +1,5 @@
 -- What is told of an expression is looked up where it stands.
-use Rattle.std.proofs.Common.{◌≡◌, ◌<◌, ◌≤◌, ◌+◌, ℕ, suc, List, [], false, map, length, take, get_or, Option, None, Some, sym, ◌∙◌, ap, subst, arith}
+use Rattle.std.proofs.Common.{◌≡◌, ◌<◌, ◌≤◌, ◌+◌, ℕ, suc, List, false, map, length, take, get_or, Option, None, Some, sym, ◌∙◌, ap, subst, arith}
 use Rattle.std.specs.Prelude.{slice_get}
 use Rattle.std.specs.List.{Contains}
 use Rattle.std.specs.List.{sum_by}
@@ -10,17 +10,18 @@ use Rattle.std.proofs.lemmas.Option.{get_or_from_slice_get, slice_get-get_or, sl
 use Rattle.lf_ast.specs.Rules.{RuleTree}
 use Rattle.lf_ast.specs.Tree.{Tree, parts_of, nodes}
 use Rattle.lf_semantics.specs.ClassRows.{HasShape, Sets}
-use Rattle.lf_semantics.specs.Environments.{Covers, recorded_row}
+use Rattle.lf_semantics.specs.Environments.{Covers, IsRow, recorded_row}
 use Rattle.lf_semantics.specs.Parts.{is_scalar_part}
 use Rattle.lf_semantics.specs.RowTable.{row_of}
 use Rattle.lf_semantics.proofs.NormalizedRows.{recorded_row_is, row_is}
 use Rattle.lf_trials.specs.Candidates.{labels_in}
+use Rattle.lf_candidates.specs.views.Packed.{no_row}
 use Rattle.lf_built.specs.declared.marking.NodeMarks.{NodeMarks}
 use Rattle.lf_built.specs.declared.prepared.Prepared.{Prepared}
 use Rattle.lf_built.specs.declared.spots.Spot.{Spot}
 use Rattle.lf_built.specs.views.Indexed.{IsPrepared, env_of, forks_of, trees_of, universe_of}
 use Rattle.lf_built.specs.views.Marking.{marks_at}
-use Rattle.lf_built.specs.views.PartRows.{PartRows, part_rows}
+use Rattle.lf_built.specs.views.PartRows.{PartRows, packed_row, part_rows}
 use Rattle.lf_built.specs.views.Places.{StandsFrom, size}
 use Rattle.lf_built.specs.views.Spots.{IsSpot, tree_at}
 use Rattle.lf_built.specs.declared.unsaid.SoughtName.{SoughtName}
@@ -59,10 +60,10 @@ module _ (p : Prepared) (known : IsPrepared p) where
 
     module _ (x : PartRows) (e : x ≡ get_or p.parts.items spot.rule x) where
       pub row_within : spot.place < length x.rows
-      row_within = subst (λ (y : PartRows). spot.place < length y.rows) (sym (told x e)) (within_map (row_of (universe_of p) (env_of p)))
+      row_within = subst (λ (y : PartRows). spot.place < length y.rows) (sym (told x e)) (within_map (packed_row (universe_of p) (env_of p)))
 
-      pub row_told : get_or x.rows spot.place [] ≡ row_of (universe_of p) (env_of p) (tree_at spot)
-      row_told = ap (λ (y : PartRows). get_or y.rows spot.place []) (told x e) ∙ looked_up (row_of (universe_of p) (env_of p)) []
+      pub row_told : get_or x.rows spot.place no_row ≡ packed_row (universe_of p) (env_of p) (tree_at spot)
+      row_told = ap (λ (y : PartRows). get_or y.rows spot.place no_row) (told x e) ∙ looked_up (packed_row (universe_of p) (env_of p)) no_row
 
       pub size_within : spot.place < length x.sizes
       size_within = subst (λ (y : PartRows). spot.place < length y.sizes) (sym (told x e)) (within_map size)
@@ -155,9 +156,12 @@ module _ (p : Prepared) (known : IsPrepared p) where
           ap (λ n. sum_by size (take n (parts_of (tree_at spot)))) next ∙ ap (sum_by size) (take-suc (parts_of (tree_at spot)) k z k_within) ∙ sum_by_push size (take k (parts_of (tree_at spot))) kth in
           omega (arith, more, kth_size, is_place)
 
-  -- rows have the shape of the universe
+  -- rows are those of the universe
+  pub is_row : (e : Tree) → IsRow (universe_of p) (row_of (universe_of p) (env_of p) e)
+  is_row e = row_is (universe_of p) known.within.listing (env_of p) known.environment e
+
   pub shape_of : (e : Tree) (row : Sets) → row ≡ row_of (universe_of p) (env_of p) e → HasShape (universe_of p) row
-  shape_of e row is = subst (λ (r : Sets). HasShape (universe_of p) r) (sym is) (row_is (universe_of p) known.within.listing (env_of p) known.environment e).0
+  shape_of e row is = subst (λ (r : Sets). HasShape (universe_of p) r) (sym is) (is_row e).0
 
   pub recorded_shape : (r : RuleTree) (row : Sets) → row ≡ recorded_row (universe_of p) (env_of p) r → HasShape (universe_of p) row
   recorded_shape r row is = subst (λ (x : Sets). HasShape (universe_of p) x) (sym is) (recorded_row_is (universe_of p) known.within.listing (env_of p) known.environment r).0

@@ -1,6 +1,7 @@
 //! The built worlds of a rule.
 ghost use Rattle.std.specs.Prelude.{◌≡◌, ◌<◌, Some, length, slice_get, IfOk};
 ghost use Rattle.lf_ast.specs.Rules.{RuleTree, rule_trees};
+ghost use Rattle.lf_semantics.specs.Environments.{rule_row};
 ghost use Rattle.lf_trials.specs.Built.{IsBuilt, built_trial};
 ghost use Rattle.lf_trials.specs.Given.{Given, giving, nothing_given};
 ghost use Rattle.lf_trials.specs.Reached.{IsReach};
@@ -54,24 +55,26 @@ impl<'a> Model for Built<'a> {
 }
 
 impl<'a> Built<'a> {
-    /// Those of the rule with this number, which has this reach.
+    /// Those of the rule with this number, which has this reach and this row.
     pub fn new(
         alloc: Global,
         prepared: &'a Prepared<'a>,
         reach: &Seq<u32>,
+        row: &'a Row,
         i: u32,
     ) -> Result<Built<'a>, Memory>
         requires prepared { IsPrepared prepared.now }
         requires forks { TellsSelectors (trees_of prepared.now) (test_of prepared.now.forks.now) }
         requires rule { i < length prepared.now.rules.now }
         requires reach { (r : RuleTree) → slice_get (trees_of prepared.now) i ≡ Some r → IsReach (trees_of prepared.now) r.expr reach.now }
+        requires row { (r : RuleTree) → slice_get (trees_of prepared.now) i ≡ Some r → row.now ≡ rule_row (universe_of prepared.now) (env_of prepared.now) r }
         ensures { IfOk result (λ built. built ≡ record { universe = universe_of prepared.now; env = env_of prepared.now; rules = prepared.now.rules.now; number = i }) }
     {
         let most = most_selectors(prepared.sources, reach, i)?;
         Ok(Built {
             prepared,
             number: i,
-            row: prepared.rule_row(i as usize),
+            row,
             most,
         })
     }

@@ -21,7 +21,7 @@ impl<'a> Prepared<'a> {
         if self.is_fork(spot) {
             Some(texts)
         } else {
-            texts.completed_by(self.universe, self.named_row(spot))
+            texts.completed_by(self.universe, self.packed_row(spot))
         }
     }
 }

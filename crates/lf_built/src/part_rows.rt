@@ -1,20 +1,21 @@
 //! The rows of all parts of an expression.
-ghost use Rattle.std.specs.Prelude.{◌≡◌, ◌<◌, ◌^◌, length, IfOk, false, slice_index_or, []};
+ghost use Rattle.std.specs.Prelude.{◌≡◌, ◌<◌, ◌^◌, length, map, IfOk, false, slice_index_or};
 ghost use Rattle.std.specs.List.{All};
 ghost use Rattle.lf_ast.specs.Tree.{tree, nodes};
 ghost use Rattle.lf_classes.specs.Limits.{IsWithin};
-ghost use Rattle.lf_semantics.specs.ClassRows.{HasShape};
-ghost use Rattle.lf_semantics.specs.Environments.{IsEnvironment};
+ghost use Rattle.lf_semantics.specs.ClassRows.{HasShape, Sets};
+ghost use Rattle.lf_semantics.specs.Environments.{IsEnvironment, IsRow};
+ghost use Rattle.lf_semantics.specs.RowTable.{Environment, row_of};
 ghost use Rattle.lf_trials.specs.Forks.{has_passing};
+ghost use Rattle.lf_candidates.specs.views.Packed.{no_row, packed};
 ghost use Rattle.lf_forks.specs.views.Holding.{test_of};
 ghost use Rattle.lf_built.specs.views.PartRows.{part_rows};
 
 use crate::sizes::part_sizes;
 use lf_ast::Expr;
 use lf_base::Memory;
-use lf_candidates::NamedRow;
+use lf_candidates::PackedRow;
 use lf_classes::{Row, Universe};
-use lf_flow::Env;
 use lf_forks::{Forks, Held};
 use std::alloc::Global;
 use std::marker::Model;
@@ -23,7 +24,7 @@ use std::marker::Model;
 /// the text, each before its own parts, so that the parts of one stand right behind it.
 #[derive(Drop)]
 pub struct PartRows {
-    rows: Vec<NamedRow>,
+    rows: Vec<PackedRow>,
     sizes: Vec<usize>,
     held: Vec<Held>,
 }
@@ -39,22 +40,21 @@ impl Model for PartRows {
 }
 
 impl PartRows {
-    /// Those of an expression. The likely classes of `__name__` are those that its rows may well have.
+    /// Those of an expression, by its row and those of its parts. The likely classes of `__name__` are those that these rows may well have.
     pub fn of(
         alloc: Global,
         universe: &Universe,
-        env: &Env,
         forks: &Forks,
         expr: &Expr,
+        rows: Vec<Row>,
         likely: &[u32],
     ) -> Result<PartRows, Memory>
-        requires { IsEnvironment universe.now env.now }
-        ensures { IfOk result (λ parts. parts ≡ part_rows universe.now env.now (has_passing (test_of forks.now)) (nodes (tree expr.now))) }
+        requires { (env : Environment) × IsEnvironment universe.now env × (rows.items ≡ map (row_of universe.now env) (nodes (tree expr.now))) }
+        ensures { (env : Environment) → IsEnvironment universe.now env → rows.items ≡ map (row_of universe.now env) (nodes (tree expr.now)) → IfOk result (λ parts. parts ≡ part_rows universe.now env (has_passing (test_of forks.now)) (nodes (tree expr.now))) }
     {
         // For what its contract says of the universe.
         let _labels = universe.labels();
-        let rows = lf_flow::part_rows(alloc, universe, env, expr)?;
-        let rows = named_rows(alloc, universe, rows, likely)?;
+        let rows = packed_rows(alloc, universe, rows, likely)?;
         let sizes = part_sizes(alloc, expr)?;
         let held = forks.are_in(alloc, expr)?;
         Ok(PartRows { rows, sizes, held })
@@ -69,17 +69,19 @@ impl PartRows {
     }
 
     /// The row of the part at a place.
-    pub fn row(&self, place: usize) -> &Row
-        requires { place < length self.now.rows }
-        ensures { result.now ≡ slice_index_or self.now.rows place [] }
+    pub fn row(&self, universe: &Universe, place: usize) -> Result<Row, Memory>
+        requires universe { IsWithin universe.now }
+        requires place { place < length self.now.rows }
+        requires row { (row : Sets) × IsRow universe.now row × (slice_index_or self.now.rows place no_row ≡ packed universe.now row) }
+        ensures { (row : Sets) → IsRow universe.now row → slice_index_or self.now.rows place no_row ≡ packed universe.now row → IfOk result (λ whole. whole ≡ row) }
     {
-        self.named_row(place).row()
+        self.packed_row(place).row(universe)
     }
 
-    /// The row of the part at a place, with its first class of `__name__`.
-    pub fn named_row(&self, place: usize) -> &NamedRow
+    /// The row of the part at a place, packed.
+    pub fn packed_row(&self, place: usize) -> &PackedRow
         requires { place < length self.now.rows }
-        ensures { result.now ≡ slice_index_or self.now.rows place [] }
+        ensures { result.now ≡ slice_index_or self.now.rows place no_row }
     {
         &self.rows[place]
     }
@@ -109,21 +111,21 @@ impl PartRows {
     }
 }
 
-/// These rows with their first classes of `__name__`, of which the likely ones are tried first.
-fn named_rows(
+/// These rows, packed. Of `__name__` the likely classes are tried first.
+fn packed_rows(
     alloc: Global,
     universe: &Universe,
     mut rows: Vec<Row>,
     likely: &[u32],
-) -> Result<Vec<NamedRow>, Memory>
+) -> Result<Vec<PackedRow>, Memory>
     requires universe { IsWithin universe.now }
     requires shapes { All (HasShape universe.now) rows.items }
-    ensures { IfOk result (λ named. named.items ≡ rows.items) }
+    ensures { IfOk result (λ kept. kept.items ≡ map (packed universe.now) rows.items) }
 {
-    let mut named = Vec::with_capacity(alloc, rows.len())?;
+    let mut kept = Vec::with_capacity(alloc, rows.len())?;
     while let Some(row) = rows.pop() {
-        named.push(NamedRow::of(universe, row, likely)?)?;
+        kept.push(PackedRow::of(alloc, universe, &row, likely)?)?;
     }
-    named.reverse();
-    Ok(named)
+    kept.reverse();
+    Ok(kept)
 }

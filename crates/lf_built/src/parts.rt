@@ -119,24 +119,30 @@ impl<'a> Prepared<'a> {
         ensures { (m : Matching) (D : Given) → operator_of (tree_at spot.now) ≡ Some (op, m) → Stands (universe_of self.now) texts D → IfOk result (AreParts self.now (tree_at spot.now) (operator_wanted (universe_of self.now) (env_of self.now) op m (tree_at left.entry) (tree_at right.entry) D)) }
     {
         match op {
-            Op::Or => Ok(self.either(spot, &left, texts)),
+            Op::Or => self.either(spot, &left, texts),
             Op::Unless => Ok(self.one(spot, 0, texts)),
             _ => self.matched(spot, left, right, texts),
         }
     }
 
     /// The left side of an `or` where its row holds the texts, and else the right side.
-    fn either(&self, spot: &Spot<'a>, left: &Spot<'a>, texts: LabelTexts) -> Option<WantedParts<'a>>
+    fn either(
+        &self,
+        spot: &Spot<'a>,
+        left: &Spot<'a>,
+        texts: LabelTexts,
+    ) -> Result<Option<WantedParts<'a>>, Memory>
         requires known { IsPrepared self.now }
         requires spot { IsSpot (trees_of self.now) spot.now }
         requires left { IsSpot (trees_of self.now) left.now }
         requires texts { (D : Given) × Stands (universe_of self.now) texts D }
-        ensures { (right : Tree) (D : Given) → parts_of (tree_at spot.now) ≡ tree_at left.now ∷ right ∷ [] → Stands (universe_of self.now) texts D → AreParts self.now (tree_at spot.now) (Some (want (cond (holds_texts (universe_of self.now) (row_of (universe_of self.now) (env_of self.now) (tree_at left.now)) D) (tree_at left.now) right) D ∷ [])) result }
+        ensures { (right : Tree) (D : Given) → parts_of (tree_at spot.now) ≡ tree_at left.now ∷ right ∷ [] → Stands (universe_of self.now) texts D → IfOk result (AreParts self.now (tree_at spot.now) (Some (want (cond (holds_texts (universe_of self.now) (row_of (universe_of self.now) (env_of self.now) (tree_at left.now)) D) (tree_at left.now) right) D ∷ []))) }
     {
-        if texts.is_held_by(self.universe, self.row(left)) {
-            self.one(spot, 0, texts)
+        let row = self.row(left)?;
+        if texts.is_held_by(self.universe, &row) {
+            Ok(self.one(spot, 0, texts))
         } else {
-            self.one(spot, 1, texts)
+            Ok(self.one(spot, 1, texts))
         }
     }
 
@@ -158,8 +164,8 @@ impl<'a> Prepared<'a> {
         ensures { (op : Op) (m : Matching) (D : Given) → operator_of (tree_at spot.now) ≡ Some (op, m) → Stands (universe_of self.now) texts D → IfOk result (AreParts self.now (tree_at spot.now) (match_wanted (universe_of self.now) (env_of self.now) op m (tree_at left.entry) (tree_at right.entry) D)) }
     {
         let marks = &self.marks(spot).sides;
-        let left_row = self.row(&left);
-        let right_row = self.row(&right);
+        let left_row = self.packed_row(&left);
+        let right_row = self.packed_row(&right);
         match side_texts(self.universe, marks, left_row, right_row, &texts)? {
             Some(sides) => Ok(Some(WantedParts::Both {
                 left,

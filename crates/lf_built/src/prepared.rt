@@ -2,11 +2,11 @@
 ghost use Rattle.std.specs.Prelude.{◌≡◌, ◌+◌, ◌<◌, ◌^◌, Some, false, length, map, slice_get, IfOk};
 ghost use Rattle.lf_ast.specs.Rules.{RuleTree, rule_trees};
 ghost use Rattle.lf_deps.specs.views.Sources.{IsSourcesOf};
-ghost use Rattle.lf_semantics.specs.ClassRows.{Sets};
 ghost use Rattle.lf_semantics.specs.Environments.{CoversRules, IsEnvironment, recorded_row as row_recorded, rule_row as row_of_rule};
 ghost use Rattle.lf_semantics.specs.Parts.{is_scalar_part};
-ghost use Rattle.lf_semantics.specs.RowTable.{row_named, row_of};
+ghost use Rattle.lf_semantics.specs.RowTable.{row_of};
 ghost use Rattle.lf_trials.specs.Candidates.{labels_in};
+ghost use Rattle.lf_candidates.specs.views.Packed.{packed};
 ghost use Rattle.lf_built.specs.views.Indexed.{IsPrepared, IsPreparedFor, env_of, forks_of, trees_of, universe_of};
 ghost use Rattle.lf_built.specs.declared.row_making.RuleRow.{RuleRow};
 ghost use Rattle.lf_built.specs.views.Marking.{marks_at, set_by};
@@ -17,12 +17,12 @@ ghost use Rattle.lf_built.specs.views.Unsaid.{IsSought};
 
 use crate::marking::{NodeMarks, marks_in_rules, set_by_rules};
 use crate::part_rows::PartRows;
-use crate::row_making::{RuleRow, own_or, rule_rows};
+use crate::row_making::{RuleRow, rule_rows};
 use crate::spots::Spot;
 use crate::unsaid::{SoughtName, SoughtNames};
 use lf_ast::Rule;
 use lf_base::{Memory, Seq, Text};
-use lf_candidates::{NamedRow, label_names};
+use lf_candidates::{PackedRow, label_names};
 use lf_classes::{Row, Universe};
 use lf_deps::Sources;
 use lf_flow::Env;
@@ -121,21 +121,21 @@ impl<'a> Prepared<'a> {
     }
 
     /// The row of an expression.
-    pub(crate) fn row(&self, spot: &Spot<'a>) -> &Row
+    pub(crate) fn row(&self, spot: &Spot<'a>) -> Result<Row, Memory>
         requires known { IsPrepared self.now }
         requires spot { IsSpot (trees_of self.now) spot.now }
-        ensures { result.now ≡ row_of (universe_of self.now) (env_of self.now) (tree_at spot.now) }
+        ensures { IfOk result (λ row. row ≡ row_of (universe_of self.now) (env_of self.now) (tree_at spot.now)) }
     {
-        self.parts[spot.rule].row(spot.place)
+        self.parts[spot.rule].row(self.universe, spot.place)
     }
 
-    /// The row of an expression, with its first class of `__name__`.
-    pub(crate) fn named_row(&self, spot: &Spot<'a>) -> &NamedRow
+    /// The row of an expression, packed.
+    pub(crate) fn packed_row(&self, spot: &Spot<'a>) -> &PackedRow
         requires known { IsPrepared self.now }
         requires spot { IsSpot (trees_of self.now) spot.now }
-        ensures { result.now ≡ row_of (universe_of self.now) (env_of self.now) (tree_at spot.now) }
+        ensures { result.now ≡ packed (universe_of self.now) (row_of (universe_of self.now) (env_of self.now) (tree_at spot.now)) }
     {
-        self.parts[spot.rule].named_row(spot.place)
+        self.parts[spot.rule].packed_row(spot.place)
     }
 
     /// The name that was sought for a selector, if it was.
@@ -197,36 +197,26 @@ impl<'a> Prepared<'a> {
     }
 
     /// The row of a rule.
-    pub fn rule_row(&self, rule: usize) -> &Row
+    pub fn rule_row(&self, rule: usize) -> Result<Row, Memory>
         requires known { IsPrepared self.now }
         requires rule { rule < length self.now.rules.now }
-        ensures { (r : RuleTree) → slice_get (trees_of self.now) rule ≡ Some r → result.now ≡ row_of_rule (universe_of self.now) (env_of self.now) r }
+        ensures { (r : RuleTree) → slice_get (trees_of self.now) rule ≡ Some r → IfOk result (λ row. row ≡ row_of_rule (universe_of self.now) (env_of self.now) r) }
     {
-        let whole = self.parts[rule].row(0);
-        own_or(&self.rows[rule], whole)
+        match &self.rows[rule] {
+            Some(row) => row.copy(),
+            None => self.parts[rule].row(self.universe, 0),
+        }
     }
 
     /// The row of what a recording rule stores.
     pub(crate) fn recorded_row(&self, rule: usize) -> &Row
         requires known { IsPrepared self.now }
-        requires rule { rule < length self.now.rules.now }
-        ensures { (r : RuleTree) → slice_get (trees_of self.now) rule ≡ Some r → r.alert ≡ false → result.now ≡ row_recorded (universe_of self.now) (env_of self.now) r }
+        requires rule { (r : RuleTree) × (slice_get (trees_of self.now) rule ≡ Some r) × (r.alert ≡ false) }
+        ensures { (r : RuleTree) → slice_get (trees_of self.now) rule ≡ Some r → result.now ≡ row_recorded (universe_of self.now) (env_of self.now) r }
     {
         match &self.recorded[rule] {
             Some(row) => row,
-            None => self.row_of_name(rule),
-        }
-    }
-
-    /// The row of a rule's name in the environment, where it has one.
-    fn row_of_name(&self, rule: usize) -> &Row
-        requires known { IsPrepared self.now }
-        requires rule { rule < length self.now.rules.now }
-        ensures { (r : RuleTree) (row : Sets) → slice_get (trees_of self.now) rule ≡ Some r → row_named (env_of self.now) r.name ≡ Some row → result.now ≡ row }
-    {
-        match self.env.row(self.rules.get(rule).name.as_str()) {
-            Some(row) => row,
-            None => self.rule_row(rule),
+            None => self.env.row(self.rules.get(rule).name.as_str()).unwrap(),
         }
     }
 }

@@ -20,7 +20,7 @@ use lf_base::{Memory, Seq, Text};
 use lf_classes::{Row, TextSet, Universe};
 use lf_deps::Sources;
 use lf_fix::{make_recorded, rule_row_by};
-use lf_flow::Env;
+use lf_flow::{Env, part_rows};
 use lf_forks::Forks;
 use std::alloc::Global;
 
@@ -120,8 +120,9 @@ fn row_of(
 {
     // For what its contract says of the universe.
     let _labels = universe.labels();
-    let parts = PartRows::of(alloc, universe, env, forks, &rule.expr, likely)?;
-    let whole = rule_row_by(alloc, universe, rule, parts.row(0))?;
+    let rows = part_rows(alloc, universe, env, &rule.expr)?;
+    let whole = rule_row_by(alloc, universe, rule, &rows[0])?;
+    let parts = PartRows::of(alloc, universe, forks, &rule.expr, rows, likely)?;
     let own = if_empty(&whole)?;
     let recorded = stored_row(universe, env, rule, whole);
     Ok(RuleRow {
@@ -178,16 +179,6 @@ fn unless_same(row: Row, other: &Row) -> Option<Row>
         return None;
     }
     Some(row)
-}
-
-/// The row of a rule: its own where it is told, and else that of its whole expression.
-pub fn own_or<'a>(own: &'a Option<Row>, whole: &'a Row) -> &'a Row
-    ensures { result.now ≡ own_or own.entry.now whole.entry.now }
-{
-    match own {
-        Some(row) => row,
-        None => whole,
-    }
 }
 
 /// The classes of the first few names that a rule selects, each once. Rows of its parts are likely to have them, and which these are changes only how long it takes.

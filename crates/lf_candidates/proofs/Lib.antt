@@ -5,6 +5,7 @@ pub mod LeftPresences
 pub mod Marks
 pub mod NamesLeft
 pub mod OnlyClass
+pub mod PackedWords
 pub mod PassingTexts
 pub mod Recorded
 pub mod Standing

@@ -3,13 +3,14 @@ ghost use Rattle.std.specs.Prelude.{◌≡◌, ◌<◌, cond, length, set, is_so
 ghost use Rattle.std.specs.List.{list_all};
 ghost use Rattle.std.specs.Option.{option_map_or};
 ghost use Rattle.lf_classes.specs.Limits.{IsWithin};
-ghost use Rattle.lf_semantics.specs.ClassRows.{HasShape};
+ghost use Rattle.lf_semantics.specs.ClassRows.{HasShape, Sets};
 ghost use Rattle.lf_semantics.specs.Listing.{Listing};
 ghost use Rattle.lf_trials.specs.Candidates.{labels_in};
 ghost use Rattle.lf_trials.specs.Given.{Given, completed, completed_by, giving, holds_text, holds_texts, label_set, losing, nothing_given, with_text};
 ghost use Rattle.lf_candidates.specs.views.ClassTexts.{IsClass, Stands, StandsAt, StandsFor, class_at, name_at, text_at};
+ghost use Rattle.lf_candidates.specs.views.Packed.{IsPacked};
 
-use crate::named_row::NamedRow;
+use crate::packed_row::PackedRow;
 use lf_ast::{LabelChoice, LabelSet};
 use lf_base::{Memory, Text};
 use lf_classes::{Row, Universe};
@@ -86,11 +87,11 @@ impl LabelTexts {
     }
 
     /// These texts, and of each label of which they say nothing its first candidate in a row. There are none where the row is empty, and where a label is left without a text.
-    pub fn completed_by(mut self, universe: &Universe, row: &NamedRow) -> Option<LabelTexts>
+    pub fn completed_by(mut self, universe: &Universe, row: &PackedRow) -> Option<LabelTexts>
         requires universe { IsWithin universe.now }
-        requires shape { HasShape universe.now row.now }
+        requires row { (whole : Sets) × IsPacked universe.now whole row.now }
         requires count { length self ≡ length universe.now.named }
-        ensures { (D : Given) → Stands universe.now self D → StandsFor universe.now result (completed universe.now row.now D) }
+        ensures { (whole : Sets) (D : Given) → IsPacked universe.now whole row.now → Stands universe.now self D → StandsFor universe.now result (completed universe.now whole D) }
     {
         if row.is_empty() {
             return None;
@@ -100,11 +101,11 @@ impl LabelTexts {
     }
 
     /// Gives each label of which nothing is said its first candidate in a row, if it has one.
-    fn complete(&mut self, universe: &Universe, row: &NamedRow)
+    fn complete(&mut self, universe: &Universe, row: &PackedRow)
         requires universe { IsWithin universe.now }
-        requires shape { HasShape universe.now row.now }
+        requires row { (whole : Sets) × IsPacked universe.now whole row.now }
         requires count { length self.old ≡ length universe.now.named }
-        ensures { (D : Given) → Stands universe.now self.old D → Stands universe.now self.new (completed_by universe.now row.now D) }
+        ensures { (whole : Sets) (D : Given) → IsPacked universe.now whole row.now → Stands universe.now self.old D → Stands universe.now self.new (completed_by universe.now whole D) }
     {
         for label in 0..universe.labels() {
             let place = label as usize;
@@ -181,14 +182,14 @@ pub fn unless_lost(lost: bool, class: Option<u32>) -> Option<u32>
 /// What is said of a label, or else its first candidate in a row.
 fn completed_class(
     universe: &Universe,
-    row: &NamedRow,
+    row: &PackedRow,
     label: u32,
     class: Option<u32>,
 ) -> Option<u32>
     requires universe { IsWithin universe.now }
-    requires shape { HasShape universe.now row.now }
+    requires row { (whole : Sets) × IsPacked universe.now whole row.now }
     requires label { label < length universe.now.named }
-    ensures { (D : Given) → StandsAt universe.now label class D → StandsAt universe.now label result (completed_by universe.now row.now D) }
+    ensures { (whole : Sets) (D : Given) → IsPacked universe.now whole row.now → StandsAt universe.now label class D → StandsAt universe.now label result (completed_by universe.now whole D) }
 {
     match class {
         Some(class) => Some(class),

@@ -5,9 +5,9 @@ mod candidates;
 mod choosing;
 mod given;
 mod labels;
-mod named_row;
 mod names;
 mod names_left;
+mod packed_row;
 mod passing;
 mod trial;
 
@@ -17,7 +17,7 @@ pub use choosing::{
 };
 pub use given::{LabelTexts, unless_lost};
 pub use labels::label_names;
-pub use named_row::NamedRow;
 pub use names::{is_recorded, is_scraped_name, name_for, passes_as_name};
+pub use packed_row::{PackedRow, WordRun};
 pub use passing::{known_pass, passes_in};
 pub use trial::Trial;

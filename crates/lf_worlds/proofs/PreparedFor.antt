@@ -45,6 +45,9 @@ module _ (u : Listing) (env : Environment) (rules : List Rule) (forks : Forks) (
     pub has_reach : (reach : List ℕ) → IsReachAt (rule_trees rules) i reach → IsReachAt (trees_of p) i reach
     has_reach reach of = subst (λ (rs : List Rule). IsReachAt (rule_trees rs) i reach) (sym is.rules) of
 
+    pub has_row : (row : Sets) → ((r : RuleTree) → slice_get (rule_trees rules) i ≡ Some r → row ≡ rule_row u env r) → (r : RuleTree) → slice_get (trees_of p) i ≡ Some r → row ≡ rule_row (universe_of p) (env_of p) r
+    has_row row of r at = of r (subst (λ (rs : List Rule). slice_get (rule_trees rs) i ≡ Some r) is.rules at) ∙ sym (own_row r (rule_row (universe_of p) (env_of p) r) refl)
+
     pub is_built_of : (b : OfRule) → b ≡ of_rule (universe_of p) (env_of p) p.rules.now i → b ≡ of_rule u env rules i
     is_built_of b same =
         same ∙ ap (λ (x : Listing). of_rule x (env_of p) p.rules.now i) is.universe ∙ ap (λ (x : Environment). of_rule u x p.rules.now i) is.env ∙ ap (λ (x : List Rule). of_rule u env x i) is.rules

@@ -126,24 +126,24 @@ impl<'a> Trials<'a> {
         ensures verdict { (r : RuleTree) → slice_get (rule_trees self.now.rules) i ≡ Some r → IfOk result (λ told. IsRuleVerdict self.now.universe self.now.env (rule_trees self.now.rules) i r (rule_verdict told)) }
         ensures unresolved { AreTyped (rule_trees self.now.rules) → SetNoNames (rule_trees self.now.rules) → IfOk result (λ told. IsOpenIfUnresolved (rule_trees self.now.rules) i (rule_verdict told)) }
     {
-        let row = self.row(i);
+        let row = self.row(i)?;
         if row.is_empty() {
             Ok(RuleKnowledge::Empty)
         } else {
-            let of = self.labels(alloc, row, i)?;
+            let of = self.labels(alloc, &row, i)?;
             Ok(RuleKnowledge::Labels { of })
         }
     }
 
     /// The row of the rule with this number. Beside it stands what is known of every universe, environment and rules of trials.
-    fn row(&self, i: u32) -> &Row
+    fn row(&self, i: u32) -> Result<Row, Memory>
         requires { i < length self.now.rules }
         ensures within { IsWithin self.now.universe }
         ensures listing { IsListing self.now.universe }
         ensures environment { IsEnvironment self.now.universe self.now.env }
         ensures covers { CoversRules self.now.universe (rule_trees self.now.rules) }
         ensures least { IsLeast self.now.universe (rule_trees self.now.rules) self.now.env }
-        ensures row { (r : RuleTree) → slice_get (rule_trees self.now.rules) i ≡ Some r → result.now ≡ rule_row self.now.universe self.now.env r }
+        ensures row { (r : RuleTree) → slice_get (rule_trees self.now.rules) i ≡ Some r → IfOk result (λ row. row ≡ rule_row self.now.universe self.now.env r) }
     {
         self.prepared.rule_row(i as usize)
     }
@@ -172,7 +172,7 @@ impl<'a> Trials<'a> {
         ensures { IfOk result (λ of. AreLabelVerdicts self.now.universe self.now.env (rule_trees self.now.rules) i row.now (labels_in self.now.universe) (map label_verdict of)) }
     {
         let reach = reach_of(alloc, self.sources, self.graph, i)?;
-        let built = Built::new(alloc, &self.prepared, &reach, i)?;
+        let built = Built::new(alloc, &self.prepared, &reach, row, i)?;
         let uniform = UniformAtNeed::new(
             self.universe,
             self.rules,

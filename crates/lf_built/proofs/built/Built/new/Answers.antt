@@ -18,6 +18,6 @@ invariant_of-result c =
       is_rule = own.1;
       reach = c.args.reach.now;
       is_reach = c.requires.reach own.0 own.1;
-      is_row = c.rule_row.ensures own.0 own.1;
+      is_row = c.requires.row own.0 own.1;
       is_most = c.in_ok-most.ensures (trees_of p) c.requires.prepared.sources;
     }

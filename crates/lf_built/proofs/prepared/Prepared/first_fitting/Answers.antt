@@ -1,9 +1,7 @@
-use Rattle.std.proofs.Common.{◌≡◌, ◌<◌, ℕ, Bool, true, false, not, ◌&&◌, List, [], length, reverse, get_or, Some, refl, sym, ◌∙◌, ap, subst, arith, below_more}
+use Rattle.std.proofs.Common.{◌≡◌, ◌<◌, ℕ, Bool, true, false, not, ◌&&◌, List, length, reverse, get_or, Some, refl, sym, ◌∙◌, ap, subst, arith, below_more}
 use Rattle.std.specs.Prelude.{slice_get}
-use Rattle.std.proofs.lemmas.List.{length-map}
-use Rattle.std.proofs.lemmas.Option.{slice_get_within}
 use Rattle.lf_ast.specs.Labels.{Bytes}
-use Rattle.lf_ast.specs.Rules.{RuleTree, rule_tree}
+use Rattle.lf_ast.specs.Rules.{RuleTree}
 use Rattle.lf_trials.specs.Built.{fits}
 use Rattle.lf_trials.specs.Given.{holds_texts}
 use Rattle.lf_trials.specs.Reached.{first_rule}
@@ -30,9 +28,7 @@ pub recorded_row-requires-clause-rule : goal.recorded_row-requires-clause-rule
 recorded_row-requires-clause-rule c =
     let p = c.args.self.now in
     let items = c.makers_of-number-items.result.now in
-    let i : ℕ = c.loop-number.number-index in
-    let f = rule_at p c.requires.known c.args.name.now items (c.makers_of-number-items.ensures ∙ makers_is (trees_of p) p.sources.now c.requires.known.sources c.args.name.now) i (omega (arith, c.loop-number-test.true)) in
-    subst (λ (n : ℕ). get_or items i 0 < n) (length-map p.rules.now rule_tree) (slice_get_within (trees_of p) (get_or items i 0) f.0 f.1)
+    rule_at p c.requires.known c.args.name.now items (c.makers_of-number-items.ensures ∙ makers_is (trees_of p) p.sources.now c.requires.known.sources c.args.name.now) c.loop-number.number-index (omega (arith, c.loop-number-test.true))
 
 pub is_held_by-requires-clause-shape : goal.is_held_by-requires-clause-shape
 is_held_by-requires-clause-shape c =
@@ -40,7 +36,7 @@ is_held_by-requires-clause-shape c =
     let items = c.makers_of-number-items.result.now in
     let i : ℕ = c.loop-number.number-index in
     let f = rule_at p c.requires.known c.args.name.now items (c.makers_of-number-items.ensures ∙ makers_is (trees_of p) p.sources.now c.requires.known.sources c.args.name.now) i (omega (arith, c.loop-number-test.true)) in
-    recorded_shape p c.requires.known f.0 c.recorded_row.result.now (c.recorded_row.ensures f.0 f.1 f.2)
+    recorded_shape p c.requires.known f.0 c.recorded_row.result.now (c.recorded_row.ensures f.0 f.1)
 
 pub returns-then-is_held_by-clause-first : goal.returns-then-is_held_by-clause-first
 returns-then-is_held_by-clause-first c D stands =
@@ -52,7 +48,7 @@ returns-then-is_held_by-clause-first c D stands =
     let less : i < length items = omega (arith, c.loop-number-test.true) in
     let f = rule_at p c.requires.known name items is i less in
     let k : ℕ = get_or items i 0 in
-    let row = c.recorded_row.ensures f.0 f.1 f.2 ∙ sym (recorded_at p c.requires.known k f.0 f.1) in
+    let row = c.recorded_row.ensures f.0 f.1 ∙ sym (recorded_at p c.requires.known k f.0 f.1) in
     let held : holds_texts (universe_of p) (stored_at p k) D ≡ true = sym (c.is_held_by.ensures D stands ∙ ap (λ (x : Sets). holds_texts (universe_of p) x D) row) ∙ c.if-is_held_by.true in
     let unmarked : is_marked (reverse c.args.marked.now) k ≡ false = sym c.has.ensures ∙ c.if-not-has.true in
     let here : fits_by p c.args.marked.now D k ≡ true = ap (λ b. not b && holds_texts (universe_of p) (stored_at p k) D) unmarked ∙ held in
@@ -88,7 +84,7 @@ loop-number-preserved c D stands =
     below_more _ _ (c.loop-number.invariant D stands)
     (elim c.else-not-has.branch [
       | else-not-has-via-then-not-has+else-is_held_by w ↦
-          let row = w.recorded_row.ensures f.0 f.1 f.2 ∙ sym (recorded_at p c.requires.known k f.0 f.1) in
+          let row = w.recorded_row.ensures f.0 f.1 ∙ sym (recorded_at p c.requires.known k f.0 f.1) in
           held_no (not (is_marked (reverse c.args.marked.now) k)) (holds_texts (universe_of p) (stored_at p k) D) (sym (w.is_held_by.ensures D stands ∙ ap (λ (x : Sets). holds_texts (universe_of p) x D) row) ∙ w.if-is_held_by.false)
       | else-not-has-via-else-not-has w ↦ unmarked_no c.args.marked.now k (holds_texts (universe_of p) (stored_at p k) D) (sym c.has.ensures ∙ w.if-not-has.false)
     ])

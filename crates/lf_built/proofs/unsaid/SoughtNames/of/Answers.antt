@@ -1,4 +1,4 @@
-use Rattle.std.proofs.Common.{List, Option, None, get_or, sym, ap, subst}
+use Rattle.std.proofs.Common.{List, Option, sym, subst}
 use Rattle.lf_ast.specs.Tree.{nodes, tree}
 use Rattle.lf_built.specs.declared.unsaid.SoughtName.{SoughtName}
 use Rattle.lf_built.specs.views.Unsaid.{AreSought}

@@ -1,6 +1,7 @@
-use Rattle.std.proofs.Common.{◌≡◌, Bool, true, false, not, refl, sym, ◌∙◌}
+use Rattle.std.proofs.Common.{◌≡◌, Bool, true, false, not, refl, sym, ap, ◌∙◌}
 use Rattle.lf_semantics.specs.ClassRows.{is_live}
 use Rattle.lf_trials.specs.Given.{completed_by}
+use Rattle.lf_candidates.specs.views.Packed.{PackedRow}
 use Rattle.lf_candidates.proofs.Completed.{all_completed, left_out, of_empty}
 use Rattle.lf_candidates.proofs.given.LabelTexts.completed_by.Goals as goal
 
@@ -13,18 +14,18 @@ live true e = refl
 live false e = sym e
 
 pub returns-then-is_empty : goal.returns-then-is_empty
-returns-then-is_empty c = λ D stands.
-    of_empty c.args.universe.now c.args.row.now D (dead (is_live c.args.row.now) (sym c.is_empty.ensures ∙ c.if-is_empty.true))
+returns-then-is_empty c = λ whole D is stands.
+    let same : not c.args.row.now.live ≡ not (is_live whole) = ap (λ (row : PackedRow). not row.live) is.1 in
+    of_empty c.args.universe.now whole D (dead (is_live whole) (sym same ∙ sym c.is_empty.ensures ∙ c.if-is_empty.true))
 
 pub returns-then-is_whole : goal.returns-then-is_whole
-returns-then-is_whole c = λ D stands.
+returns-then-is_whole c = λ whole D is stands.
     let u = c.args.universe.now in
-    let row = c.args.row.now in
-    let done = c.complete.ensures D stands in
-    all_completed u row D c.complete.new.self (live (is_live row) (sym c.is_empty.ensures ∙ c.if-is_empty.false)) (sym c.if-is_whole.true ∙ c.is_whole.ensures u (completed_by u row D) c.requires.universe done) done
+    let same : not c.args.row.now.live ≡ not (is_live whole) = ap (λ (row : PackedRow). not row.live) is.1 in
+    let done = c.complete.ensures whole D is stands in
+    all_completed u whole D c.complete.new.self (live (is_live whole) (sym same ∙ sym c.is_empty.ensures ∙ c.if-is_empty.false)) (sym c.if-is_whole.true ∙ c.is_whole.ensures u (completed_by u whole D) c.requires.universe done) done
 
 pub returns-else-is_whole : goal.returns-else-is_whole
-returns-else-is_whole c = λ D stands.
+returns-else-is_whole c = λ whole D is stands.
     let u = c.args.universe.now in
-    let row = c.args.row.now in
-    left_out u row D (sym c.if-is_whole.false ∙ c.is_whole.ensures u (completed_by u row D) c.requires.universe (c.complete.ensures D stands))
+    left_out u whole D (sym c.if-is_whole.false ∙ c.is_whole.ensures u (completed_by u whole D) c.requires.universe (c.complete.ensures whole D is stands))

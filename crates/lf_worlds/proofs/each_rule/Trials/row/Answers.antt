@@ -1,8 +1,11 @@
 use Rattle.std.proofs.Common.{◌≡◌, ◌<◌, Some, length, sym, subst, slice_get}
+use Rattle.std.specs.Prelude.{IfOk}
+use Rattle.std.proofs.lemmas.Result.{IfOk-weaker}
 use Rattle.lf_ast.specs.Rules.{rule_trees}
 use Rattle.lf_classes.specs.Limits.{IsWithin}
 use Rattle.lf_semantics.specs.Environments.{CoversRules, IsEnvironment, IsLeast, rule_row}
 use Rattle.lf_semantics.specs.Listing.{IsListing}
+use Rattle.lf_built.specs.views.Indexed.{env_of, universe_of}
 use Rattle.lf_worlds.specs.views.Tried.{Tried}
 use Rattle.lf_worlds.proofs.PreparedFor.{is_within, own_row, own_tree}
 use Rattle.lf_worlds.proofs.each_rule.Trials.row.Goals as goal
@@ -34,5 +37,6 @@ pub returns-clause-row : goal.returns-clause-row
 returns-clause-row c = λ r at.
     let s = c.self.inside in
     let there = own_tree s.universe.now s.env.now s.rules.now s.prepared.forks.now s.prepared c.self.invariant.3 c.args.i r (subst (λ (w : Tried). slice_get (rule_trees w.rules) c.args.i ≡ Some r) (sym c.self.view_is) at) in
-    let own = own_row s.universe.now s.env.now s.rules.now s.prepared.forks.now s.prepared c.self.invariant.3 r c.rule_row.result.now (c.rule_row.ensures r there) in
-    subst (λ (w : Tried). c.rule_row.result.now ≡ rule_row w.universe w.env r) c.self.view_is own
+    subst (λ (w : Tried). IfOk c.rule_row.result (λ row. row ≡ rule_row w.universe w.env r)) c.self.view_is
+    (IfOk-weaker c.rule_row.result (λ row. row ≡ rule_row (universe_of s.prepared) (env_of s.prepared) r) (λ row. row ≡ rule_row s.universe.now s.env.now r)
+    (λ row is. own_row s.universe.now s.env.now s.rules.now s.prepared.forks.now s.prepared c.self.invariant.3 r row is) (c.rule_row.ensures r there))

@@ -1,7 +1,7 @@
 use Rattle.std.proofs.Common.{◌<◌, List, length, sym, subst}
 use Rattle.lf_ast.specs.Rules.{RuleTree, rule_trees}
-use Rattle.lf_worlds.specs.views.Tried.{IsReachAt, Tried}
-use Rattle.lf_worlds.proofs.PreparedFor.{has_reach, is_built_of, is_within, tells_selectors}
+use Rattle.lf_worlds.specs.views.Tried.{IsReachAt, IsRowAt, Tried}
+use Rattle.lf_worlds.proofs.PreparedFor.{has_reach, has_row, is_built_of, is_within, tells_selectors}
 use Rattle.lf_worlds.proofs.Reaches.{is_reach}
 use Rattle.lf_worlds.proofs.each_rule.Trials.tried.Goals as goal
 
@@ -22,6 +22,11 @@ new-requires-clause-reach c =
     let trees : List RuleTree = rule_trees c.self.inside.rules.now in
     let of : IsReachAt trees c.args.i c.in_ok-reach.reach = is_reach trees c.args.i c.in_ok-reach.reach (c.in_ok-reach.ensures.members trees c.self.invariant.2.sources) c.in_ok-reach.ensures.ascending in
     has_reach c.self.inside.universe.now c.self.inside.env.now c.self.inside.rules.now c.self.inside.prepared.forks.now c.self.inside.prepared c.self.invariant.3 c.args.i c.in_ok-reach.reach of
+
+pub new-requires-clause-row : goal.new-requires-clause-row
+new-requires-clause-row c =
+    has_row c.self.inside.universe.now c.self.inside.env.now c.self.inside.rules.now c.self.inside.prepared.forks.now c.self.inside.prepared c.self.invariant.3 c.args.i c.args.row.now
+    (subst (λ (w : Tried). IsRowAt w.universe w.env (rule_trees w.rules) c.args.i c.args.row.now) (sym c.self.view_is) c.requires.row)
 
 pub new-uniform-requires-clause-reach : goal.new-uniform-requires-clause-reach
 new-uniform-requires-clause-reach c =

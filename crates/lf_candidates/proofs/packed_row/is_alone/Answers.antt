@@ -3,7 +3,7 @@ use Rattle.lf_semantics.specs.ClassRows.{Sets, narrowed}
 use Rattle.lf_semantics.specs.Environments.{Leq}
 use Rattle.lf_semantics.proofs.RowLaws.{shape_narrowed}
 use Rattle.lf_candidates.proofs.OnlyClass.{first_is, test}
-use Rattle.lf_candidates.proofs.named_row.is_alone.Goals as goal
+use Rattle.lf_candidates.proofs.packed_row.is_alone.Goals as goal
 
 pub covers-requires : goal.covers-requires
 covers-requires c =
