@@ -173,6 +173,10 @@ fn move_found(
 fn move_behind(alloc: Global, rules: &mut Seq<Rule>, more: Seq<Rule>) -> Result<(), Memory>
     ensures { OnOk result (rules.new ≡ rules.old ++ more) }
 {
+    if rules.len() == 0 {
+        *rules = more;
+        return Ok(());
+    }
     let mut taken = taken_out(alloc, more)?;
     while let Some(rule) = taken.pop() {
         rules.push(rule)?;

@@ -1,3 +1,4 @@
+pub mod AtMost
 pub mod FirstSamples
 pub mod LabelVerdicts
 pub mod Measured

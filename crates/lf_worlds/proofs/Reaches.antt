@@ -31,10 +31,10 @@ module _ (rules : List RuleTree) (i : ℕ) (found : List ℕ) where
 
 -- ---- a rule and its reach ascend
 
-tail_ascends : (x : ℕ) (xs : List ℕ) → AreAscending (x ∷ xs) → AreAscending xs
+pub tail_ascends : (x : ℕ) (xs : List ℕ) → AreAscending (x ∷ xs) → AreAscending xs
 tail_ascends x xs ascending k l less most = ascending (suc k) (suc l) (omega (arith, less)) (omega (arith, most))
 
-less_behind : (x : ℕ) (xs : List ℕ) → AreAscending (x ∷ xs) → (y : ℕ) → Contains xs y → x < y
+pub less_behind : (x : ℕ) (xs : List ℕ) → AreAscending (x ∷ xs) → (y : ℕ) → Contains xs y → x < y
 less_behind x xs ascending y c =
     let step = ascending 0 (suc c.0) (omega arith) (omega (arith, c.1)) in
     omega (arith, step, get_or_default xs c.0 0 y c.1, c.2)
@@ -74,21 +74,21 @@ module _ (i : ℕ) (reach : List ℕ) where
   is_later : (k : ℕ) → Contains later k → i < k
   is_later k c = ltb-true i k (of_filter (λ j. nat_lt i j) reach k c).1
 
-  with_ascends : AreAscending reach → AreAscending (with_reach i reach)
+  pub with_ascends : AreAscending reach → AreAscending (with_reach i reach)
   with_ascends ascending =
       both_ascend before (i ∷ later) (filter_ascends (λ k. nat_lt k i) reach ascending) (ascends_behind i later (filter_ascends (λ k. nat_lt i k) reach ascending) is_later)
       (λ x y c d. let less = is_before x c in elim (first_or_behind i later y d) [ inl same ↦ omega (arith, less, same) | inr e ↦ let more = is_later y e in omega (arith, less, more) ])
 
-  with_members : (k : ℕ) → Contains (with_reach i reach) k → (i ≡ k) ⊎ Contains reach k
+  pub with_members : (k : ℕ) → Contains (with_reach i reach) k → (i ≡ k) ⊎ Contains reach k
   with_members k c = elim (Contains-append_cases before (i ∷ later) k c) [
     | inl d ↦ inr (of_filter (λ j. nat_lt j i) reach k d).0
     | inr d ↦ elim (first_or_behind i later k d) [ inl same ↦ inl same | inr e ↦ inr (of_filter (λ j. nat_lt i j) reach k e).0 ]
   ]
 
-  with_itself : Contains (with_reach i reach) i
+  pub with_itself : Contains (with_reach i reach) i
   with_itself = Contains-append_right before (i ∷ later) i (here i later)
 
-  with_all : (k : ℕ) → Contains reach k → Contains (with_reach i reach) k
+  pub with_all : (k : ℕ) → Contains reach k → Contains (with_reach i reach) k
   with_all k c = elim (cases_lt k i) [
     | inl less ↦ Contains-append_left before (i ∷ later) k (in_filter (λ j. nat_lt j i) reach k c (lt-ltb k i less))
     | inr most ↦ elim (cases_lt i k) [

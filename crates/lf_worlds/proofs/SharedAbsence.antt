@@ -1,5 +1,5 @@
 -- One trial is that for the absence of each label whose absence the row leaves, where the expression holds no fork.
-use Rattle.std.proofs.Common.{◌≡◌, ◌<◌, ℕ, ◌+◌, Bool, true, false, ◌&&◌, cond, eqb, List, [], ◌∷◌, length, Option, Some, None, is_some, refl, sym, ap, ◌∙◌, subst, arith, true≢false, slice_get}
+use Rattle.std.proofs.Common.{◌≡◌, ◌<◌, ℕ, Bool, true, false, ◌&&◌, cond, List, [], ◌∷◌, length, Option, Some, None, is_some, refl, sym, ap, ◌∙◌, subst, arith, true≢false}
 use Rattle.std.specs.Prelude.{option_and_then, option_map}
 use Rattle.std.specs.List.{find, list_all}
 use Rattle.std.specs.Option.{option_or}
@@ -14,7 +14,7 @@ use Rattle.lf_ast.specs.Tree.{Tree}
 use Rattle.lf_classes.specs.Limits.{IsWithin}
 use Rattle.lf_semantics.specs.ClassRows.{Sets, bottom, holds, is_live}
 use Rattle.lf_semantics.specs.Environments.{rule_row}
-use Rattle.lf_semantics.specs.Listing.{Listing, named_at}
+use Rattle.lf_semantics.specs.Listing.{Listing}
 use Rattle.lf_semantics.specs.Parts.{is_evaluated, type_by_form}
 use Rattle.lf_semantics.specs.RowTable.{Environment, row_of}
 use Rattle.lf_trials.specs.Building.{Building}

@@ -1,6 +1,7 @@
 //! Worlds that show that a label can be on a sample or can be lacking, and the verdicts that they decide.
 #![tactic(auto)]
 
+mod at_most;
 mod at_need;
 mod each_rule;
 mod leaving;
@@ -13,7 +14,7 @@ mod showing;
 mod verdict;
 
 pub use each_rule::Trials;
-pub use measure::{label_selectors, label_selectors_by};
+pub use measure::{label_selectors, label_selectors_at_most, label_selectors_by};
 pub use one_call::trials;
 pub use readings::Readings;
 pub use verdict::{LabelKnowledge, RuleKnowledge, ShownWorlds};

@@ -1,11 +1,12 @@
 //! How much there is to try with rules.
-ghost use Rattle.std.specs.Prelude.{◌≡◌, ◌-◌, ◌^◌, ℕ, List, length, map, min, IfOk};
+ghost use Rattle.std.specs.Prelude.{◌≡◌, ◌≤◌, ◌-◌, ◌^◌, ℕ, List, length, map, min, IfOk};
 ghost use Rattle.lf_ast.specs.Rules.{RuleTree, rule_trees};
 ghost use Rattle.lf_deps.specs.views.Index.{IsIndex};
 ghost use Rattle.lf_deps.specs.views.Sources.{IsSourcesOf};
 ghost use Rattle.lf_forks.specs.Selectors.{selector_total};
 ghost use Rattle.lf_worlds.specs.Measure.{AreReaches, IsLabelSelectors, selectors_tried};
 
+use crate::at_most::most_tried;
 use crate::rule_graph::rule_edges;
 use lf_ast::Rule;
 use lf_base::{Memory, Seq};
@@ -36,6 +37,23 @@ pub fn label_selectors_by(
 {
     let counts = selector_counts(alloc, rules)?;
     let tried = selectors_tried(alloc, sources, counts.as_slice())?;
+    let labels = universe.labels();
+    Ok((labels as u64).saturating_mul(tried))
+}
+
+/// No less than `label_selectors_by`, and found in one pass over the rules. It is far more only where rules read others in many ways, and the greatest `u64` where a rule selects
+/// one that doesn't stand before it, or has a selector without a name.
+pub fn label_selectors_at_most(
+    alloc: Global,
+    universe: &Universe,
+    rules: &Seq<Rule>,
+    sources: &Sources,
+) -> Result<u64, Memory>
+    requires { IsSourcesOf (rule_trees rules.now) sources.now }
+    ensures { IfOk result (λ most. (n : ℕ) × IsLabelSelectors universe.now (rule_trees rules.now) n × (min n (2 ^ 64 - 1) ≤ most)) }
+{
+    let counts = selector_counts(alloc, rules)?;
+    let tried = most_tried(alloc, sources, counts.as_slice())?;
     let labels = universe.labels();
     Ok((labels as u64).saturating_mul(tried))
 }

@@ -215,8 +215,8 @@ impl<'a> RuleTrials<'a> {
         )
     }
 
-    /// The built world that shows the absence of a label. Where the rule's expression holds no fork, one trial is that of all labels whose absence the row leaves, and the one that was made
-    /// for another label is taken.
+    /// The built world that shows the absence of a label. Where the rule's expression holds no fork, one trial is that of all labels whose absence the row leaves, and the one
+    /// that was made for another label is taken.
     fn by_absence(&mut self, alloc: Global, label: u32) -> Result<Option<World>, Memory>
         requires label { label < length self.old.universe.named }
         requires left { IsLeft self.old.universe self.old.env (rule_trees self.old.rules) self.old.number (name_at self.old.universe label) false }

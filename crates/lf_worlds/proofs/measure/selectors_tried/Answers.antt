@@ -1,6 +1,5 @@
 use Rattle.std.proofs.Common.{◌≡◌, ◌-◌, ◌^◌, ℕ, List, length, min, ap, subst, sym, ◌∙◌, arith}
 use Rattle.std.proofs.lemmas.Result.{IfOk-weaker}
-use Rattle.lf_ast.specs.Rules.{RuleTree}
 use Rattle.lf_graph.specs.Paths.{IsGraph}
 use Rattle.lf_deps.specs.views.Sources.{Sources}
 use Rattle.lf_trials.specs.Reached.{with_reach}

@@ -1,6 +1,5 @@
-use Rattle.std.proofs.Common.{◌≡◌, List, None, Option, Some, subst, slice_get}
+use Rattle.std.proofs.Common.{◌≡◌, List, Some, subst, slice_get}
 use Rattle.std.specs.List.{Contains}
-use Rattle.lf_ast.specs.Labels.{Labels}
 use Rattle.lf_ast.specs.Rules.{RuleTree, rule_tree, rule_trees}
 use Rattle.lf_deps.proofs.RuleTrees.{tree_at}
 use Rattle.std.specs.Prelude.{IfOk}

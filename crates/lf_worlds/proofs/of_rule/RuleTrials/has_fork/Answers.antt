@@ -1,4 +1,4 @@
-use Rattle.std.proofs.Common.{◌≡◌, Bool, Option, Some, List, ap, sym, ◌∙◌, subst, slice_get}
+use Rattle.std.proofs.Common.{Bool, Option, List, ap, ◌∙◌, subst, slice_get}
 use Rattle.std.specs.Prelude.{IfSome}
 use Rattle.lf_laws.proofs.Options.{same_option}
 use Rattle.lf_ast.specs.Rules.{RuleTree, rule_tree, rule_trees}

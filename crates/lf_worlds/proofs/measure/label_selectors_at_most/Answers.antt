@@ -1,0 +1,33 @@
+use Rattle.std.proofs.Common.{◌≡◌, ◌≤◌, ◌*◌, ◌-◌, ◌^◌, ℕ, List, length, min, refl, ap, subst, sym, ◌∙◌}
+use Rattle.std.proofs.lemmas.List.{length-map}
+use Rattle.lf_ast.specs.Rules.{RuleTree, rule_trees}
+use Rattle.lf_deps.proofs.LookedUp.{selected_count}
+use Rattle.lf_forks.specs.Selectors.{selector_total}
+use Rattle.lf_trials.specs.Candidates.{labels_in}
+use Rattle.lf_candidates.proofs.Standing.{label_count}
+use Rattle.lf_worlds.specs.Measure.{selectors_tried}
+use Rattle.lf_worlds.proofs.AtMost.{product_least}
+use Rattle.lf_worlds.proofs.OneMeasure.{are_reaches, reach_at}
+use Rattle.lf_worlds.proofs.measure.label_selectors_at_most.Goals as goal
+
+pub most_tried-requires-clause-sources : goal.most_tried-requires-clause-sources
+most_tried-requires-clause-sources c = (rule_trees c.args.rules.now, c.requires)
+
+pub most_tried-requires-clause-counts : goal.most_tried-requires-clause-counts
+most_tried-requires-clause-counts c =
+    let trees : List RuleTree = rule_trees c.args.rules.now in
+    ap length (c.as_slice.ensures.value ∙ c.in_ok-counts.ensures) ∙ length-map trees (λ (r : RuleTree). selector_total r.expr) ∙ sym (selected_count trees c.args.sources.now c.requires)
+
+pub returns : goal.returns
+returns c =
+    let u = c.args.universe.now in
+    let trees : List RuleTree = rule_trees c.args.rules.now in
+    let most : ℕ = 2 ^ 64 - 1 in
+    let tried : ℕ = selectors_tried trees (reach_at trees) in
+    let is : min tried most ≤ c.in_ok-tried.tried = c.in_ok-tried.ensures trees c.requires (c.as_slice.ensures.value ∙ c.in_ok-counts.ensures) (reach_at trees) (are_reaches trees) in
+    let labels : c.labels-labels.result ≡ length (labels_in u) = c.labels-labels.ensures.count ∙ sym (label_count u c.labels-labels.ensures.within) in
+    let product = c.saturating_mul.ensures ∙ ap (λ (n : ℕ). min (n * c.in_ok-tried.tried) most) labels in (
+      length (labels_in u) * tried,
+      record { reach = reach_at trees; are_reaches = are_reaches trees; is_product = refl },
+      subst (λ (n : ℕ). min (length (labels_in u) * tried) most ≤ n) (sym product) (product_least (length (labels_in u)) tried c.in_ok-tried.tried most is),
+    )
