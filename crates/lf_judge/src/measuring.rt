@@ -12,7 +12,7 @@ use lf_ast::Rule;
 use lf_base::Seq;
 use lf_checks::RecordedNames;
 use lf_classes::{ClassError, Universe};
-use lf_worlds::{label_selectors_at_most, label_selectors_by};
+use lf_worlds::label_selectors_over;
 use std::alloc::Global;
 
 /// The most rules that may be accepted.
@@ -127,8 +127,7 @@ fn limit_words(
     Ok(())
 }
 
-/// Refuses rules that pass the limit on trials, where they pass none of those before and verdicts on labels are asked for. They are counted only where it can't be told in one
-/// pass over the rules that they are few.
+/// Refuses rules that pass the limit on trials, where they pass none of those before and verdicts on labels are asked for.
 fn limit_trials(
     alloc: Global,
     universe: &Universe,
@@ -145,18 +144,13 @@ fn limit_trials(
     ensures refused { IfErr result (EndsWith true (rule_trees rules.now)) }
 {
     let sources = recorded.sources();
-    let most = label_selectors_at_most(alloc, universe, rules, sources)?;
-    if most <= MOST_SELECTED {
-        return Ok(());
-    }
-    let selected = label_selectors_by(alloc, universe, rules, sources)?;
-    if selected > MOST_SELECTED {
-        return Err(JudgeEnd::Limit {
+    match label_selectors_over(alloc, universe, rules, sources, MOST_SELECTED)? {
+        Some(found) => Err(JudgeEnd::Limit {
             quantity: SELECTED,
-            found: selected,
-        });
+            found,
+        }),
+        None => Ok(()),
     }
-    Ok(())
 }
 
 /// The universe of rules that aren't too many, where it passes no limit.

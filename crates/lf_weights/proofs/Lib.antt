@@ -1,4 +1,4 @@
 mod Blocks
 mod Nodes
 mod Passing
-mod Sums
+pub mod Sums

@@ -105,18 +105,6 @@ whole a m h = grind arith
 pub one_up_to : (a b most total next : ℕ) → total ≡ min a most → next ≡ min (total + b) most → next ≡ min (a + b) most
 one_up_to a b most total next e f = grind arith
 
--- one more number of a range
-
-last : (a n : ℕ) → range_with_len a (suc n) ≡ range_with_len a n ++ (a + n) ∷ []
-last a zero = let e : a ≡ a + 0 = omega arith in ap (λ (k : ℕ). k ∷ []) e
-last a (suc n) = let e : a + 1 + n ≡ a + suc n = omega arith in ap (λ (ks : List ℕ). a ∷ ks) (last (a + 1) n ∙ ap (λ (k : ℕ). range_with_len (a + 1) n ++ k ∷ []) e)
-
-pub sum_more : (f : ℕ → ℕ) (n : ℕ) → sum_by f (range_with_len 0 (n + 1)) ≡ sum_by f (range_with_len 0 n) + f n
-sum_more f n =
-    let e : n + 1 ≡ suc n = omega arith in
-    let z : 0 + n ≡ n = omega arith in
-    ap (λ (k : ℕ). sum_by f (range_with_len 0 k)) e ∙ ap (sum_by f) (last 0 n) ∙ sum_by_push f (range_with_len 0 n) (0 + n) ∙ ap (λ (k : ℕ). sum_by f (range_with_len 0 n) + f k) z
-
 -- ---- the rules that are tried with a rule
 
 abbrev pub tried_by : List RuleTree → (ℕ → List ℕ) → ℕ → ℕ

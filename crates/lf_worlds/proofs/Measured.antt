@@ -1,9 +1,13 @@
 -- Counts of selectors, summed, and their products up to a greatest number.
-use Rattle.std.proofs.Common.{◌≡◌, ◌<◌, ◌≤◌, ◌⊎◌, inl, inr, ℕ, zero, suc, ◌+◌, ◌*◌, min, List, [], ◌∷◌, map, get_or, refl, sym, ap, ◌∙◌, arith, slice_get, option_to_list}
+use Rattle.std.proofs.Common.{◌≡◌, ◌<◌, ◌≤◌, ◌⊎◌, inl, inr, ℕ, zero, suc, ◌+◌, ◌*◌, min, List, [], ◌∷◌, length, map, get_or, refl, sym, ap, ◌∙◌, arith, slice_get, option_to_list}
 use Rattle.std.specs.List.{sum_by}
 use Rattle.std.proofs.lemmas.Bool.{cases_lt}
+use Rattle.std.proofs.lemmas.List.{length-map}
 use Rattle.std.proofs.lemmas.List.Sums.{sum_by-append, sum_by-cons}
 use Rattle.lf_ast.specs.Rules.{RuleTree}
+use Rattle.lf_deps.specs.views.Sources.{IsSourcesOf, Sources}
+use Rattle.lf_deps.proofs.LookedUp.{selected_count}
+use Rattle.lf_forks.specs.Selectors.{selector_total}
 use Rattle.lf_witness.specs.StrictRuns.{rules_at}
 
 -- the rules of numbers, counted one by one
@@ -21,6 +25,10 @@ module _ (total : RuleTree → ℕ) where
       let rest = counts_at rules numbers in
       let all = sum_by-cons (λ (j : ℕ). get_or (map total rules) j 0) k numbers in
       omega (arith, first, one, rest, all)
+
+-- the selectors that stand in each rule are as many counts as an index of the rules has lists
+pub counts_long : (rules : List RuleTree) (s : Sources) → IsSourcesOf rules s → {counts : List ℕ} → counts ≡ map (λ (r : RuleTree). selector_total r.expr) rules → length counts ≡ length s.selected
+counts_long rules s is e = ap length e ∙ length-map rules (λ (r : RuleTree). selector_total r.expr) ∙ sym (selected_count rules s is)
 
 -- products up to a greatest number
 

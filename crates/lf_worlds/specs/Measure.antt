@@ -1,5 +1,5 @@
 -- How much there is to try: the labels of the universe, times the selectors that stand in each rule and in what it reads.
-use Rattle.std.specs.Prelude.{◌≡◌, ℕ, ◌*◌, List, length, Some, slice_get}
+use Rattle.std.specs.Prelude.{◌≡◌, ◌<◌, ◌≤◌, ℕ, ◌*◌, ◌-◌, ◌^◌, List, length, min, Option, Some, None, slice_get}
 use Rattle.std.specs.List.{range_with_len, sum_by}
 use Rattle.lf_ast.specs.Rules.{RuleTree}
 use Rattle.lf_semantics.specs.Listing.{Listing}
@@ -25,3 +25,8 @@ pub record IsLabelSelectors (u : Listing) (rules : List RuleTree) (n : ℕ) : Ty
   pub reach : ℕ → List ℕ
   pub are_reaches : AreReaches rules reach
   pub is_product : n ≡ length (labels_in u) * selectors_tried rules reach
+
+-- how much there is to try, or 2^64 - 1 where that is less, if it is more than a number, and else nothing
+abbrev pub IsCountOver : Listing → List RuleTree → ℕ → Option ℕ → Type 0
+IsCountOver u rules most (Some found) = (n : ℕ) × IsLabelSelectors u rules n × (found ≡ min n (2 ^ 64 - 1)) × (most < found)
+IsCountOver u rules most None = (n : ℕ) × IsLabelSelectors u rules n × (min n (2 ^ 64 - 1) ≤ most)

@@ -14,7 +14,7 @@ mod showing;
 mod verdict;
 
 pub use each_rule::Trials;
-pub use measure::{label_selectors, label_selectors_at_most, label_selectors_by};
+pub use measure::{label_selectors, label_selectors_over};
 pub use one_call::trials;
 pub use readings::Readings;
 pub use verdict::{LabelKnowledge, RuleKnowledge, ShownWorlds};

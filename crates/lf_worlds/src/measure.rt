@@ -4,7 +4,7 @@ ghost use Rattle.lf_ast.specs.Rules.{RuleTree, rule_trees};
 ghost use Rattle.lf_deps.specs.views.Index.{IsIndex};
 ghost use Rattle.lf_deps.specs.views.Sources.{IsSourcesOf};
 ghost use Rattle.lf_forks.specs.Selectors.{selector_total};
-ghost use Rattle.lf_worlds.specs.Measure.{AreReaches, IsLabelSelectors, selectors_tried};
+ghost use Rattle.lf_worlds.specs.Measure.{AreReaches, IsCountOver, IsLabelSelectors, selectors_tried};
 
 use crate::at_most::most_tried;
 use crate::rule_graph::rule_edges;
@@ -25,8 +25,32 @@ pub fn label_selectors(alloc: Global, universe: &Universe, rules: &Seq<Rule>) ->
     label_selectors_by(alloc, universe, rules, &sources)
 }
 
+/// As `label_selectors`, by the index of the same rules, where that is more than some number, and None where it isn't. It is counted only where it can't be told in one pass over
+/// the rules that it is no more.
+pub fn label_selectors_over(
+    alloc: Global,
+    universe: &Universe,
+    rules: &Seq<Rule>,
+    sources: &Sources,
+    most: u64,
+) -> Result<Option<u64>, Memory>
+    requires { IsSourcesOf (rule_trees rules.now) sources.now }
+    ensures { IfOk result (IsCountOver universe.now (rule_trees rules.now) most) }
+{
+    let at_most = label_selectors_at_most(alloc, universe, rules, sources)?;
+    if at_most <= most {
+        return Ok(None);
+    }
+    let found = label_selectors_by(alloc, universe, rules, sources)?;
+    if found > most {
+        Ok(Some(found))
+    } else {
+        Ok(None)
+    }
+}
+
 /// As `label_selectors`, by the index of the same rules.
-pub fn label_selectors_by(
+fn label_selectors_by(
     alloc: Global,
     universe: &Universe,
     rules: &Seq<Rule>,
@@ -43,7 +67,7 @@ pub fn label_selectors_by(
 
 /// No less than `label_selectors_by`, and found in one pass over the rules. It is far more only where rules read others in many ways, and the greatest `u64` where a rule selects
 /// one that doesn't stand before it, or has a selector without a name.
-pub fn label_selectors_at_most(
+fn label_selectors_at_most(
     alloc: Global,
     universe: &Universe,
     rules: &Seq<Rule>,

@@ -3,8 +3,5 @@ use Rattle.lf_ast.specs.Rules.{rule_trees}
 use Rattle.lf_deps.specs.views.Sources.{IsSourcesOf, Sources}
 use Rattle.lf_judge.proofs.measuring.limit_trials.Goals as goal
 
-pub label_selectors_at_most-requires : goal.label_selectors_at_most-requires
-label_selectors_at_most-requires c = subst (λ (s : Sources). IsSourcesOf (rule_trees c.args.rules.now) s) (sym c.sources-sources.ensures) c.requires.recorded.sources
-
-pub label_selectors_by-requires : goal.label_selectors_by-requires
-label_selectors_by-requires c = subst (λ (s : Sources). IsSourcesOf (rule_trees c.args.rules.now) s) (sym c.sources-sources.ensures) c.requires.recorded.sources
+pub label_selectors_over-requires : goal.label_selectors_over-requires
+label_selectors_over-requires c = subst (λ (s : Sources). IsSourcesOf (rule_trees c.args.rules.now) s) (sym c.sources-sources.ensures) c.requires.recorded.sources

@@ -8,8 +8,9 @@ use Rattle.lf_deps.specs.Reading.{selectors}
 use Rattle.lf_deps.specs.views.Sources.{Sources}
 use Rattle.lf_deps.proofs.LookedUp.{selected_is}
 use Rattle.lf_forks.specs.Selectors.{selector_total}
+use Rattle.lf_weights.proofs.Sums.{sum_more}
 use Rattle.lf_worlds.specs.views.AtMost.{most_by}
-use Rattle.lf_worlds.proofs.AtMost.{AreTold, both_up_to, no_more, one_more_told, sum_more, tried_by}
+use Rattle.lf_worlds.proofs.AtMost.{AreTold, both_up_to, no_more, one_more_told, tried_by}
 use Rattle.lf_worlds.proofs.at_most.most_tried.Goals as goal
 
 pub loop-rule-preserved : goal.loop-rule-preserved

@@ -1,12 +1,10 @@
 use Rattle.std.proofs.Common.{◌≡◌, ◌≤◌, ◌*◌, ◌-◌, ◌^◌, ℕ, List, length, min, refl, ap, subst, sym, ◌∙◌}
-use Rattle.std.proofs.lemmas.List.{length-map}
 use Rattle.lf_ast.specs.Rules.{RuleTree, rule_trees}
-use Rattle.lf_deps.proofs.LookedUp.{selected_count}
-use Rattle.lf_forks.specs.Selectors.{selector_total}
 use Rattle.lf_trials.specs.Candidates.{labels_in}
 use Rattle.lf_candidates.proofs.Standing.{label_count}
 use Rattle.lf_worlds.specs.Measure.{selectors_tried}
 use Rattle.lf_worlds.proofs.AtMost.{product_least}
+use Rattle.lf_worlds.proofs.Measured.{counts_long}
 use Rattle.lf_worlds.proofs.OneMeasure.{are_reaches, reach_at}
 use Rattle.lf_worlds.proofs.measure.label_selectors_at_most.Goals as goal
 
@@ -14,9 +12,7 @@ pub most_tried-requires-clause-sources : goal.most_tried-requires-clause-sources
 most_tried-requires-clause-sources c = (rule_trees c.args.rules.now, c.requires)
 
 pub most_tried-requires-clause-counts : goal.most_tried-requires-clause-counts
-most_tried-requires-clause-counts c =
-    let trees : List RuleTree = rule_trees c.args.rules.now in
-    ap length (c.as_slice.ensures.value ∙ c.in_ok-counts.ensures) ∙ length-map trees (λ (r : RuleTree). selector_total r.expr) ∙ sym (selected_count trees c.args.sources.now c.requires)
+most_tried-requires-clause-counts c = counts_long (rule_trees c.args.rules.now) c.args.sources.now c.requires (c.as_slice.ensures.value ∙ c.in_ok-counts.ensures)
 
 pub returns : goal.returns
 returns c =

@@ -1,12 +1,9 @@
 use Rattle.std.proofs.Common.{◌≡◌, ◌*◌, ◌-◌, ◌^◌, ℕ, List, length, min, refl, ap, ap₂, sym, ◌∙◌}
-use Rattle.std.proofs.lemmas.List.{length-map}
 use Rattle.lf_ast.specs.Rules.{RuleTree, rule_trees}
-use Rattle.lf_deps.proofs.LookedUp.{selected_count}
-use Rattle.lf_forks.specs.Selectors.{selector_total}
 use Rattle.lf_trials.specs.Candidates.{labels_in}
 use Rattle.lf_candidates.proofs.Standing.{label_count}
 use Rattle.lf_worlds.specs.Measure.{selectors_tried}
-use Rattle.lf_worlds.proofs.Measured.{product_up_to}
+use Rattle.lf_worlds.proofs.Measured.{counts_long, product_up_to}
 use Rattle.lf_worlds.proofs.OneMeasure.{are_reaches, reach_at}
 use Rattle.lf_worlds.proofs.measure.label_selectors_by.Goals as goal
 
@@ -14,9 +11,7 @@ pub selectors_tried-requires-clause-sources : goal.selectors_tried-requires-clau
 selectors_tried-requires-clause-sources c = (rule_trees c.args.rules.now, c.requires)
 
 pub selectors_tried-requires-clause-counts : goal.selectors_tried-requires-clause-counts
-selectors_tried-requires-clause-counts c =
-    let trees : List RuleTree = rule_trees c.args.rules.now in
-    ap length (c.as_slice.ensures.value ∙ c.in_ok-counts.ensures) ∙ length-map trees (λ (r : RuleTree). selector_total r.expr) ∙ sym (selected_count trees c.args.sources.now c.requires)
+selectors_tried-requires-clause-counts c = counts_long (rule_trees c.args.rules.now) c.args.sources.now c.requires (c.as_slice.ensures.value ∙ c.in_ok-counts.ensures)
 
 pub returns : goal.returns
 returns c =
