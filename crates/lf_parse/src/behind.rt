@@ -4,7 +4,7 @@ ghost use Rattle.lf_ast.specs.Tree.{tree, trees};
 ghost use Rattle.lf_parse.specs.reading.Machine as machine;
 ghost use Rattle.lf_parse.specs.views.Values.{token_of, frames_of, next, operand_of, subject_of};
 
-use crate::braces::Braces;
+use crate::braces::opened;
 use crate::calls::aggregation;
 use crate::follower::{Follower, follower_of};
 use crate::mark::MarkedToken;
@@ -54,11 +54,7 @@ fn bare_step(
     match follower {
         Follower::Bracket => Ok(Some(ParserMode::AfterBracket(Operand::Bare(name, span)))),
         Follower::Paren => Ok(Some(ParserMode::First(Callee::Call(name, span)))),
-        Follower::Brace => Ok(Some(ParserMode::InBraces(
-            Some(name),
-            span,
-            Braces::Next(Seq::new(alloc)),
-        ))),
+        Follower::Brace => Ok(Some(ParserMode::InBraces(Some(name), span, opened(alloc)?))),
         Follower::Offset => Ok(Some(ParserMode::InMod(
             of_word(alloc, name),
             Box::new(alloc, blank(span))?,

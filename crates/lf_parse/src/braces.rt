@@ -25,6 +25,15 @@ pub enum Braces {
     AfterMatcher(Seq<Matcher>),
 }
 
+/// Behind a `{`.
+pub fn opened(alloc: Global) -> Result<Braces, Memory>
+    ensures { IfOk result (λ b. braces_of b ≡ machine.NextMatcher []) }
+{
+    // Most selectors have one matcher.
+    let matchers = Seq::with_capacity(alloc, 1)?;
+    Ok(Braces::Next(matchers))
+}
+
 /// How a match sign compares.
 fn match_of(sign: Sign) -> Option<MatchOp>
     ensures { result ≡ grammar.match_of sign }

@@ -60,44 +60,91 @@ pub enum WordClass {
     Bool,
 }
 
-/// The words that are more than names, in lower case.
-const WORDS: [(&str, WordClass); 28] = [
-    ("and", WordClass::Operator(Op::And)),
+/// The words that are more than names, in lower case: those of two bytes.
+const OF_TWO: [(&str, WordClass); 3] = [
     ("or", WordClass::Operator(Op::Or)),
-    ("unless", WordClass::Operator(Op::Unless)),
-    ("atan2", WordClass::Operator(Op::Atan2)),
     ("by", WordClass::Grouping(Clause::By)),
-    ("without", WordClass::Grouping(Clause::Without)),
     ("on", WordClass::Matching(Scope::On)),
-    ("ignoring", WordClass::Matching(Scope::Ignoring)),
-    ("group_left", WordClass::Group(Side::Left)),
-    ("group_right", WordClass::Group(Side::Right)),
-    ("offset", WordClass::Offset),
-    ("bool", WordClass::Bool),
+];
+
+/// Those of three bytes.
+const OF_THREE: [(&str, WordClass); 8] = [
+    ("and", WordClass::Operator(Op::And)),
     ("inf", WordClass::Numeric),
     ("nan", WordClass::Numeric),
-    ("start", WordClass::Edge(RangeEnd::Start)),
     ("end", WordClass::Edge(RangeEnd::End)),
     ("sum", WordClass::Aggregation(Agg::Sum)),
     ("min", WordClass::Aggregation(Agg::Min)),
     ("max", WordClass::Aggregation(Agg::Max)),
     ("avg", WordClass::Aggregation(Agg::Avg)),
+];
+
+/// Those of four bytes.
+const OF_FOUR: [(&str, WordClass); 2] = [
+    ("bool", WordClass::Bool),
+    ("topk", WordClass::Aggregation(Agg::Topk)),
+];
+
+/// Those of five bytes.
+const OF_FIVE: [(&str, WordClass); 4] = [
+    ("atan2", WordClass::Operator(Op::Atan2)),
+    ("start", WordClass::Edge(RangeEnd::Start)),
     ("group", WordClass::Aggregation(Agg::Group)),
+    ("count", WordClass::Aggregation(Agg::Count)),
+];
+
+/// Those of six bytes.
+const OF_SIX: [(&str, WordClass); 4] = [
+    ("unless", WordClass::Operator(Op::Unless)),
+    ("offset", WordClass::Offset),
     ("stddev", WordClass::Aggregation(Agg::Stddev)),
     ("stdvar", WordClass::Aggregation(Agg::Stdvar)),
-    ("count", WordClass::Aggregation(Agg::Count)),
-    ("quantile", WordClass::Aggregation(Agg::Quantile)),
-    ("count_values", WordClass::Aggregation(Agg::CountValues)),
-    ("topk", WordClass::Aggregation(Agg::Topk)),
+];
+
+/// Those of seven bytes.
+const OF_SEVEN: [(&str, WordClass); 2] = [
+    ("without", WordClass::Grouping(Clause::Without)),
     ("bottomk", WordClass::Aggregation(Agg::Bottomk)),
 ];
 
-/// The class of a word without a colon, in any case of letters.
-#[tactic(auto, unfolding(crate::specs::Tokens::class_of))]
+/// Those of eight bytes.
+const OF_EIGHT: [(&str, WordClass); 2] = [
+    ("ignoring", WordClass::Matching(Scope::Ignoring)),
+    ("quantile", WordClass::Aggregation(Agg::Quantile)),
+];
+
+/// Those of ten bytes.
+const OF_TEN: [(&str, WordClass); 1] = [("group_left", WordClass::Group(Side::Left))];
+
+/// Those of eleven bytes.
+const OF_ELEVEN: [(&str, WordClass); 1] = [("group_right", WordClass::Group(Side::Right))];
+
+/// Those of twelve bytes.
+const OF_TWELVE: [(&str, WordClass); 1] = [(
+    "count_values",
+    WordClass::Aggregation(Agg::CountValues),
+)];
+
+/// The class of a word without a colon, in any case of letters. It is compared with the words that are as long.
 pub fn class_of(text: &str) -> WordClass
     ensures { result ≡ tokens.class_of text.now }
 {
-    class_in(text, &WORDS)
+    match text.len() {
+        0 => WordClass::Plain,
+        1 => WordClass::Plain,
+        2 => class_in(text, &OF_TWO),
+        3 => class_in(text, &OF_THREE),
+        4 => class_in(text, &OF_FOUR),
+        5 => class_in(text, &OF_FIVE),
+        6 => class_in(text, &OF_SIX),
+        7 => class_in(text, &OF_SEVEN),
+        8 => class_in(text, &OF_EIGHT),
+        9 => WordClass::Plain,
+        10 => class_in(text, &OF_TEN),
+        11 => class_in(text, &OF_ELEVEN),
+        12 => class_in(text, &OF_TWELVE),
+        13.. => WordClass::Plain,
+    }
 }
 
 /// The class that a table gives to a word, in any case of letters, or else `Plain`.

@@ -52,7 +52,9 @@ pub fn names_step(
 {
     match (names, token.mark) {
         (Names::Opening, Mark::Sign(Sign::OpenParen)) => {
-            Ok(ParserStep::More(Names::Next(Seq::new(alloc))))
+            // Most have one label or two.
+            let list = Seq::with_capacity(alloc, 2)?;
+            Ok(ParserStep::More(Names::Next(list)))
         }
         (Names::Next(list), Mark::Word(_)) => {
             let label = name_of(alloc, token)?;

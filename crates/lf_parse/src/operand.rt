@@ -4,7 +4,7 @@ ghost use Rattle.lf_ast.specs.Tree as trees_of;
 ghost use Rattle.lf_parse.specs.reading.Machine as machine;
 ghost use Rattle.lf_parse.specs.views.Values.{token_of, frame_of, frames_of, next, callee_of, operand_of};
 
-use crate::braces::Braces;
+use crate::braces::opened;
 use crate::class::WordClass;
 use crate::mark::{Mark, MarkedToken};
 use crate::mode::{Callee, Operand, ParserFrame, ParserMode};
@@ -65,7 +65,7 @@ pub fn expect_operand(
         Mark::Sign(Sign::OpenBrace) => Ok(Some(ParserMode::InBraces(
             None,
             token.span,
-            Braces::Next(Seq::new(alloc)),
+            opened(alloc)?,
         ))),
         Mark::Sign(Sign::OpenParen) => {
             stack.push(ParserFrame::Paren(token.span))?;

@@ -1,0 +1,45 @@
+use Rattle.std.proofs.Common.{arith, ◌∙◌}
+use Rattle.lf_parse.proofs.Words.{class_by_length, class_of_longer}
+use Rattle.lf_parse.proofs.class.class_of.Goals as goal
+
+pub returns-in-2 : goal.returns-in-2
+returns-in-2 c = c.class_in.ensures ∙ class_by_length c.args.text.now 2 c.in-2.is
+
+pub returns-in-3 : goal.returns-in-3
+returns-in-3 c = c.class_in-in-3.ensures ∙ class_by_length c.args.text.now 3 c.in-3.is
+
+pub returns-in-4 : goal.returns-in-4
+returns-in-4 c = c.class_in-in-4.ensures ∙ class_by_length c.args.text.now 4 c.in-4.is
+
+pub returns-in-5 : goal.returns-in-5
+returns-in-5 c = c.class_in-in-5.ensures ∙ class_by_length c.args.text.now 5 c.in-5.is
+
+pub returns-in-6 : goal.returns-in-6
+returns-in-6 c = c.class_in-in-6.ensures ∙ class_by_length c.args.text.now 6 c.in-6.is
+
+pub returns-in-7 : goal.returns-in-7
+returns-in-7 c = c.class_in-in-7.ensures ∙ class_by_length c.args.text.now 7 c.in-7.is
+
+pub returns-in-8 : goal.returns-in-8
+returns-in-8 c = c.class_in-in-8.ensures ∙ class_by_length c.args.text.now 8 c.in-8.is
+
+pub returns-in-10 : goal.returns-in-10
+returns-in-10 c = c.class_in-in-10.ensures ∙ class_by_length c.args.text.now 10 c.in-10.is
+
+pub returns-in-11 : goal.returns-in-11
+returns-in-11 c = c.class_in-in-11.ensures ∙ class_by_length c.args.text.now 11 c.in-11.is
+
+pub returns-in-12 : goal.returns-in-12
+returns-in-12 c = c.class_in-in-12.ensures ∙ class_by_length c.args.text.now 12 c.in-12.is
+
+pub returns-in-0 : goal.returns-in-0
+returns-in-0 c = class_by_length c.args.text.now 0 c.in-0.is
+
+pub returns-in-1 : goal.returns-in-1
+returns-in-1 c = class_by_length c.args.text.now 1 c.in-1.is
+
+pub returns-in-9 : goal.returns-in-9
+returns-in-9 c = class_by_length c.args.text.now 9 c.in-9.is
+
+pub returns-in-13-to-max : goal.returns-in-13-to-max
+returns-in-13-to-max c = class_of_longer c.args.text.now (omega (arith, c.in-13-to-max))
