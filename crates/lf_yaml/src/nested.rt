@@ -207,7 +207,8 @@ fn entries(
     ensures further { IfOk result (λ x. entry.entry.behind ≤ x.1) }
 {
     let column = indent(entry.row);
-    let mut found = Seq::new(source.alloc);
+    // Most mappings of a rule file have two entries.
+    let mut found = Seq::with_capacity(source.alloc, 2)?;
     let mut keys = KeySet::new(source.alloc);
     let (first, mut left) = one_entry(source, depth, column, &keys, entry)?;
     keys.add(first.key.text.as_str())?;

@@ -153,7 +153,7 @@ one_entry-returns-clause-gives t c = λ texts known.
 
 pub entries-returns-in_err-first-clause-gives : goal.entries-returns-in_err-first-clause-gives
 entries-returns-in_err-first-clause-gives t c =
-    let p = err_from_is_err_and c.from_residual.result c.from_residual.ensures.1 in
+    let p = err_from_is_err_and c.from_residual-in_err-first.result c.from_residual-in_err-first.ensures.1 in
     let e = c.args.entry in
     rw (p.1, p.2) (first-fails-at c.args.source.bytes.now c.args.depth c.indent-column.result (shown e.row) (headed e.row.at e.row.text.now e.head) (rows_after c.args.source.bytes.now e.behind) c.in_err-first.field-0.0 c.indent-column.ensures c.requires.entry.entry
     (c.in_err-first.ensures.gives [] c.new-keys.ensures))
@@ -162,10 +162,10 @@ pub entries-rows-init : goal.entries-rows-init
 entries-rows-init t c =
     let e = c.args.entry in
     record {
-      run = rw (c.in_ok-push.ensures.ok, c.new-found.ensures)
+      run = rw (c.in_ok-push.ensures.ok, c.in_ok-found.ensures)
           (first-entry-at c.args.source.bytes.now c.args.depth c.indent-column.result (shown e.row) (headed e.row.at e.row.text.now e.head) (rows_after c.args.source.bytes.now e.behind) (pair c.in_ok-first.first) (rows_after c.args.source.bytes.now c.in_ok-first.left) c.indent-column.ensures
           c.requires.entry.row.placed (rows-placed c.args.source.bytes.now e.behind) c.requires.entry.entry (c.in_ok-first.ensures.gives [] c.new-keys.ensures));
-      known = rw (c.in_ok-push.ensures.ok, c.new-found.ensures) (known-first c.add.new.self c.in_ok-first.first c.as_str.result.now c.as_str.ensures (c.in_ok-add.ensures [] c.new-keys.ensures));
+      known = rw (c.in_ok-push.ensures.ok, c.in_ok-found.ensures) (known-first c.add.new.self c.in_ok-first.first c.as_str.result.now c.as_str.ensures (c.in_ok-add.ensures [] c.new-keys.ensures));
       start = c.in_ok-first.ensures.start;
       further = c.in_ok-first.ensures.further;
     }
