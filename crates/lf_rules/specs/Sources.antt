@@ -5,6 +5,8 @@ use Rattle.lf_scalar.specs.Cells.{Value}
 use Rattle.lf_scalar.specs.Scalars.{value}
 use Rattle.lf_yaml.specs.Insides.{ScalarInside}
 use Rattle.lf_rules.specs.declared.source.Pair.{Pair}
+use Rattle.lf_rules.specs.declared.source.PairInTree.{PairInTree}
+use Rattle.lf_rules.specs.declared.source.RuleInTree.{RuleInTree}
 use Rattle.lf_rules.specs.declared.source.RuleSource.{RuleSource}
 
 -- a key and its text
@@ -29,6 +31,20 @@ source r = record {
   expr = value r.expr;
   labels = map setting r.labels;
   annotations = map setting r.annotations;
+  group = r.group;
+}
+
+-- the same of what stands in a tree
+abbrev pub setting_in : PairInTree → Setting
+setting_in p = (value p.key.now, value p.value.now)
+
+abbrev pub source_in : RuleInTree → Source
+source_in r = record {
+  alert = r.alert;
+  name = value r.name.now;
+  expr = value r.expr.now;
+  labels = map setting_in r.labels;
+  annotations = map setting_in r.annotations;
   group = r.group;
 }
 

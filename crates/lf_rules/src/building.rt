@@ -7,7 +7,7 @@ ghost use Rattle.lf_rules.specs.reading.Files as reading;
 ghost use Rattle.lf_rules.specs.Sources as sources;
 
 use crate::entries::{entries_of, given, items_of};
-use crate::source::{Pair, RuleSource};
+use crate::source::{PairInTree, RuleInTree};
 use lf_base::{Memory, Seq};
 use lf_scalar::Scalar;
 use lf_yaml::{Entry, Node};
@@ -47,33 +47,34 @@ fn items_at<'a>(entries: &'a [Entry], key: &str) -> &'a [Node]
 }
 
 /// A label or an annotation.
-fn setting(entry: &Entry) -> Result<Pair, Memory>
+fn setting(entry: &Entry) -> PairInTree<'_>
     requires { reading.IsLeaf (pair entry.now).1 }
-    ensures { IfOk result (λ p. sources.setting p ≡ reading.setting_of (pair entry.now)) }
+    ensures { sources.setting_in result ≡ reading.setting_of (pair entry.now) }
 {
-    let key = entry.key.copy()?;
-    let value = leaf(&entry.value).copy()?;
-    Ok(Pair { key, value })
+    PairInTree {
+        key: &entry.key,
+        value: leaf(&entry.value),
+    }
 }
 
 /// All of them, in their order.
-fn all_settings(alloc: Global, entries: &[Entry]) -> Result<Seq<Pair>, Memory>
+fn all_settings(alloc: Global, entries: &[Entry]) -> Result<Seq<PairInTree<'_>>, Memory>
     requires { reading.AreLeaves (map pair entries.now) }
-    ensures { IfOk result (λ ps. map sources.setting ps ≡ map reading.setting_of (map pair entries.now)) }
+    ensures { IfOk result (λ ps. map sources.setting_in ps ≡ map reading.setting_of (map pair entries.now)) }
 {
-    let mut pairs = Seq::new(alloc);
+    let mut pairs = Seq::with_capacity(alloc, entries.len())?;
     let mut rest = entries;
     while let Some((entry, others)) = rest.split_first() {
-        pairs.push(setting(entry)?)?;
+        pairs.push(setting(entry))?;
         rest = others;
     }
     Ok(pairs)
 }
 
 /// The labels or annotations of a key, and none where it is missing.
-fn settings(alloc: Global, node: Option<&Node>) -> Result<Seq<Pair>, Memory>
+fn settings(alloc: Global, node: Option<&Node>) -> Result<Seq<PairInTree<'_>>, Memory>
     requires { reading.SetsLeaves (option_map (λ t. tree t.now) node) }
-    ensures { IfOk result (λ ps. map sources.setting ps ≡ reading.settings_of (option_map (λ t. tree t.now) node.entry)) }
+    ensures { IfOk result (λ ps. map sources.setting_in ps ≡ reading.settings_of (option_map (λ t. tree t.now) node.entry)) }
 {
     match node {
         Some(node) => all_settings(alloc, entries_of(node)),
@@ -100,18 +101,16 @@ fn is_alert(entries: &[Entry]) -> bool
 }
 
 /// A rule in the group with a number.
-fn rule_source(alloc: Global, group: u32, entries: &[Entry]) -> Result<RuleSource, Memory>
+fn rule_source(alloc: Global, group: u32, entries: &[Entry]) -> Result<RuleInTree<'_>, Memory>
     requires { reading.IsReadable (map pair entries.now) }
-    ensures { IfOk result (λ r. sources.source r ≡ reading.rule_source group (map pair entries.now)) }
+    ensures { IfOk result (λ r. sources.source_in r ≡ reading.rule_source group (map pair entries.now)) }
 {
-    let name = rule_name(entries).copy()?;
-    let expr = scalar_at(entries, "expr").copy()?;
     let labels = settings(alloc, given(entries, "labels"))?;
     let annotations = settings(alloc, given(entries, "annotations"))?;
-    Ok(RuleSource {
+    Ok(RuleInTree {
         alert: is_alert(entries),
-        name,
-        expr,
+        name: rule_name(entries),
+        expr: scalar_at(entries, "expr"),
         labels,
         annotations,
         group,
@@ -119,14 +118,14 @@ fn rule_source(alloc: Global, group: u32, entries: &[Entry]) -> Result<RuleSourc
 }
 
 /// Appends the rules of a group with a number.
-fn push_rules(
-    rules: &mut Seq<RuleSource>,
+fn push_rules<'a>(
+    rules: &mut Seq<RuleInTree<'a>>,
     alloc: Global,
     group: u32,
-    nodes: &[Node],
+    nodes: &'a [Node],
 ) -> Result<(), Memory>
     requires { reading.AreReadable (map tree nodes.now) }
-    ensures { OnOk result (map sources.source rules.new ≡ map sources.source rules.old ++ map (reading.tree_source group) (map tree nodes.now)) }
+    ensures { OnOk result (map sources.source_in rules.new ≡ map sources.source_in rules.old ++ map (reading.tree_source group) (map tree nodes.now)) }
 {
     let mut rest = nodes;
     while let Some((node, others)) = rest.split_first() {
@@ -138,9 +137,13 @@ fn push_rules(
 
 /// Appends the rules of all groups, which are numbered from 0. There is no memory for so many groups that their numbers don't fit.
 #[tactic(auto, unfolding(crate::specs::reading::Files::groups_sources))]
-fn push_groups(rules: &mut Seq<RuleSource>, alloc: Global, groups: &[Node]) -> Result<(), Memory>
+fn push_groups<'a>(
+    rules: &mut Seq<RuleInTree<'a>>,
+    alloc: Global,
+    groups: &'a [Node],
+) -> Result<(), Memory>
     requires { reading.AreReadableGroups (map tree groups.now) }
-    ensures { OnOk result (map sources.source rules.new ≡ map sources.source rules.old ++ reading.groups_sources 0 (map tree groups.now)) }
+    ensures { OnOk result (map sources.source_in rules.new ≡ map sources.source_in rules.old ++ reading.groups_sources 0 (map tree groups.now)) }
 {
     let mut number: u32 = 0;
     let mut rest = groups;
@@ -162,9 +165,9 @@ fn next_number(number: u32) -> Result<u32, Memory>
 }
 
 /// The rules of a file, in the order of its groups and of the rules in each.
-pub fn all_sources(alloc: Global, file: &Node) -> Result<Seq<RuleSource>, Memory>
+pub fn all_sources(alloc: Global, file: &Node) -> Result<Seq<RuleInTree<'_>>, Memory>
     requires { reading.faults (tree file.now) ≡ [] }
-    ensures { IfOk result (λ rs. map sources.source rs ≡ reading.sources (tree file.now)) }
+    ensures { IfOk result (λ rs. map sources.source_in rs ≡ reading.sources (tree file.now)) }
 {
     let mut rules = Seq::new(alloc);
     push_groups(&mut rules, alloc, items_at(entries_of(file), "groups"))?;

@@ -2,6 +2,7 @@
 #![tactic(auto)]
 
 mod building;
+mod copying;
 mod entries;
 mod judging;
 mod judging_groups;
@@ -11,6 +12,6 @@ mod source;
 mod texts;
 mod uniqueness;
 
-pub use reading::read_rules;
-pub use source::{Pair, RuleSource};
+pub use reading::{read_rules, rules_in_tree};
+pub use source::{Pair, PairInTree, RuleInTree, RuleSource};
 pub use uniqueness::one_answer;

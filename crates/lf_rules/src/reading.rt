@@ -7,11 +7,12 @@ ghost use Rattle.lf_yaml.specs.Insides.{Inside};
 ghost use Rattle.lf_rules.specs.Breaches.{Breaks, FirstBreak};
 ghost use Rattle.lf_rules.specs.reading.Files as reading;
 ghost use Rattle.lf_rules.specs.Rules.{IsRules};
-ghost use Rattle.lf_rules.specs.Sources.{source, SourcesInside};
+ghost use Rattle.lf_rules.specs.Sources.{source, source_in, SourcesInside};
 
 use crate::building::all_sources;
+use crate::copying::rules_of;
 use crate::judging_groups::judge_file;
-use crate::source::RuleSource;
+use crate::source::{RuleInTree, RuleSource};
 use lf_base::{Fault, Refusal, Seq};
 use lf_yaml::Node;
 use std::alloc::Global;
@@ -47,9 +48,29 @@ pub fn read_rules(alloc: Global, file: &Node) -> Result<Seq<RuleSource>, Refusal
     read(alloc, file)
 }
 
-/// The same, by the way of reading.
+/// The same rules as they stand in the tree, without copies.
+pub fn rules_in_tree(alloc: Global, file: &Node) -> Result<Seq<RuleInTree<'_>>, Refusal>
+    ensures found { Found (map source_in) (IsRules (tree file.now)) result }
+    ensures only { Only (map source_in) (IsRules (tree file.now)) result }
+    ensures refused { Refused (FirstBreak (tree file.now)) result }
+    ensures told { Breach (map source_in) (FirstBreak (tree file.now)) result }
+    ensures inside { (n : ℕ) → n < 2 ^ 32 → Inside n (tree file.now) → IfOk result (λ rules. SourcesInside n (map source_in rules)) }
+    ensures refused_inside { (n : ℕ) → n < 2 ^ 32 → Inside n (tree file.now) → RefusedIn n result }
+{
+    read_in_tree(alloc, file)
+}
+
+/// Copies of the rules that are read in the tree.
 fn read(alloc: Global, file: &Node) -> Result<Seq<RuleSource>, Refusal>
     ensures { AnswersAs (map source) result (reading.reading (tree file.now)) }
+{
+    let rules = read_in_tree(alloc, file)?;
+    Ok(rules_of(alloc, rules.as_slice())?)
+}
+
+/// The same as `rules_in_tree`, by the way of reading.
+fn read_in_tree(alloc: Global, file: &Node) -> Result<Seq<RuleInTree<'_>>, Refusal>
+    ensures { AnswersAs (map source_in) result (reading.reading (tree file.now)) }
 {
     let mut first = None;
     judge_file(&mut first, alloc, file)?;

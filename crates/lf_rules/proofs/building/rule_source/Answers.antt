@@ -18,5 +18,5 @@ settings-requires-2 c = subst SetsLeaves (sym c.given-2.ensures) c.requires.anno
 
 pub returns : goal.returns
 returns c =
-    same _ _ _ _ _ _ _ _ _ _ c.args.group c.is_alert.ensures (c.in_ok-name.ensures ∙ c.rule_name.ensures) (c.in_ok-expr.ensures ∙ c.scalar_at.ensures)
+    same _ _ _ _ _ _ _ _ _ _ c.args.group c.is_alert.ensures c.rule_name.ensures c.scalar_at.ensures
     (c.in_ok-labels.ensures ∙ ap settings_of c.given.ensures) (c.in_ok-annotations.ensures ∙ ap settings_of c.given-2.ensures)
