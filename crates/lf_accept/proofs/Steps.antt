@@ -22,9 +22,8 @@ use Rattle.lf_lex.specs.Tokens.{Tokens, Breaks}
 use Rattle.lf_lex.specs.declared.token.Token.{Token}
 use Rattle.lf_parse.specs.Answer.{IsExpression, Refuses}
 use Rattle.lf_rules.specs.Breaches.{FirstBreak}
-use Rattle.lf_rules.specs.Rules.{IsRules}
-use Rattle.lf_rules.specs.Sources.{Source, SourceInside, SourcesInside, source}
-use Rattle.lf_rules.specs.declared.source.RuleSource.{RuleSource}
+use Rattle.lf_rules.specs.Sources.{Source, SourceInside, SourcesInside, source_in}
+use Rattle.lf_rules.specs.declared.source.RuleInTree.{RuleInTree}
 use Rattle.lf_scalar.specs.Cells.{Value}
 use Rattle.lf_semantics.specs.PatternBreaches.{TellsPattern}
 use Rattle.lf_yaml.specs.Document.{IsTree, TreeBreaks}
@@ -79,29 +78,29 @@ module _ (v : Value) (ts : List Token) (end : ℕ) (is : end ≡ end_of v) (h : 
 
 -- ---- rules
 
-module _ (file : ℕ) (sources : List RuleSource) (i : ℕ) (s : RuleSource) (inside : i < length sources) (is : s ≡ get_or sources i s) (rules : List Rule)
-    (h : AllZip (IsAcceptedRule file) (map source (take i sources)) (rule_trees rules)) where
-  more : map source (take (i + 1) sources) ≡ map source (take i sources) ++ source s ∷ []
-  more = ap (map source) (take_more sources i s inside) ∙ map-append source (take i sources) (get_or sources i s ∷ []) ∙ ap (λ (x : RuleSource). map source (take i sources) ++ source x ∷ []) (sym is)
+module _ (file : ℕ) (sources : List RuleInTree) (i : ℕ) (s : RuleInTree) (inside : i < length sources) (is : s ≡ get_or sources i s) (rules : List Rule)
+    (h : AllZip (IsAcceptedRule file) (map source_in (take i sources)) (rule_trees rules)) where
+  more : map source_in (take (i + 1) sources) ≡ map source_in (take i sources) ++ source_in s ∷ []
+  more = ap (map source_in) (take_more sources i s inside) ∙ map-append source_in (take i sources) (get_or sources i s ∷ []) ∙ ap (λ (x : RuleInTree). map source_in (take i sources) ++ source_in x ∷ []) (sym is)
 
-  pub rules_more : (r : Rule) → IsAcceptedRule file (source s) (rule_tree r) → AllZip (IsAcceptedRule file) (map source (take (i + 1) sources)) (rule_trees (rules ++ r ∷ []))
+  pub rules_more : (r : Rule) → IsAcceptedRule file (source_in s) (rule_tree r) → AllZip (IsAcceptedRule file) (map source_in (take (i + 1) sources)) (rule_trees (rules ++ r ∷ []))
   rules_more r k =
-      let P : List RuleTree → Type 0 = λ rs. AllZip (IsAcceptedRule file) (map source (take (i + 1) sources)) rs in
+      let P : List RuleTree → Type 0 = λ rs. AllZip (IsAcceptedRule file) (map source_in (take (i + 1) sources)) rs in
       subst P (sym (map-append rule_tree rules (r ∷ [])))
-      (subst (λ ss. AllZip (IsAcceptedRule file) ss (rule_trees rules ++ rule_tree r ∷ [])) (sym more) (zip_push (IsAcceptedRule file) (map source (take i sources)) (rule_trees rules) (source s) (rule_tree r) h k))
+      (subst (λ ss. AllZip (IsAcceptedRule file) ss (rule_trees rules ++ rule_tree r ∷ [])) (sym more) (zip_push (IsAcceptedRule file) (map source_in (take i sources)) (rule_trees rules) (source_in s) (rule_tree r) h k))
 
-  pub cut : map source sources ≡ map source (take i sources) ++ source s ∷ map source (drop (suc i) sources)
-  cut = ap (map source) (split_at sources i s inside) ∙ map-append source (take i sources) (get_or sources i s ∷ drop (suc i) sources)
-      ∙ ap (λ (x : RuleSource). map source (take i sources) ++ source x ∷ map source (drop (suc i) sources)) (sym is)
+  pub cut : map source_in sources ≡ map source_in (take i sources) ++ source_in s ∷ map source_in (drop (suc i) sources)
+  cut = ap (map source_in) (split_at sources i s inside) ∙ map-append source_in (take i sources) (get_or sources i s ∷ drop (suc i) sources)
+      ∙ ap (λ (x : RuleInTree). map source_in (take i sources) ++ source_in x ∷ map source_in (drop (suc i) sources)) (sym is)
 
-  pub first_breach : (e : Refusal) → IfAt e (BreaksExpr (source s).expr) → IfAt e (HasBreach (map source sources))
-  first_breach = at_by (BreaksExpr (source s).expr) (HasBreach (map source sources)) (λ f k. (
-    source s,
+  pub first_breach : (e : Refusal) → IfAt e (BreaksExpr (source_in s).expr) → IfAt e (HasBreach (map source_in sources))
+  first_breach = at_by (BreaksExpr (source_in s).expr) (HasBreach (map source_in sources)) (λ f k. (
+    source_in s,
     record {
-      front = map source (take i sources);
-      back = map source (drop (suc i) sources);
+      front = map source_in (take i sources);
+      back = map source_in (drop (suc i) sources);
       list = cut;
-      all_before = all_have file (map source (take i sources)) (rule_trees rules) h;
+      all_before = all_have file (map source_in (take i sources)) (rule_trees rules) h;
       is_here = k;
     },
   ))
@@ -113,8 +112,8 @@ counted_more rules r start left now h k =
     omega (arith, more, h, k)
 
 -- the scalar of a rule's expression ends in the file
-pub ends_inside : (n : ℕ) (sources : List RuleSource) (i : ℕ) (s : RuleSource) → i < length sources → s ≡ get_or sources i s → SourcesInside n (map source sources) → s.expr.span.end ≤ n
-ends_inside n sources i s h is all = (each_member (SourceInside n) (map source sources) (source s) all (in_map source sources s (i, h, sym is))).expr.0.1
+pub ends_inside : (n : ℕ) (sources : List RuleInTree) (i : ℕ) (s : RuleInTree) → i < length sources → s ≡ get_or sources i s → SourcesInside n (map source_in sources) → s.expr.now.span.end ≤ n
+ends_inside n sources i s h is all = (each_member (SourceInside n) (map source_in sources) (source_in s) all (in_map source_in sources s (i, h, sym is))).expr.0.1
 
 -- ---- files
 
@@ -132,12 +131,8 @@ pub refuses_rule : (bytes : Bytes) (ss : List Source) → Says bytes ss → {X :
 refuses_rule bytes ss says = refused_by (HasBreach ss) (RefusesFile bytes) (λ f h. bad_expression says h.1)
 
 module _ (bytes : Bytes) (t : FileTree) (is : IsTree bytes t) where
-  pub says : {X : Type 0} (view : X → List Source) (r : Result X Refusal) → Found view (IsRules t) r → Found view (Says bytes) r
-  says view (Ok rs) h = (t, is, h)
-  says view (Err e) h = tt
+  pub at_rules : (e : Refusal) → IfAt e (FirstBreak t) → IfAt e (RefusesFile bytes)
+  at_rules = at_by (FirstBreak t) (RefusesFile bytes) (λ f h. no_rules is h)
 
-  pub refuses_rules : {X : Type 0} (r : Result X Refusal) → Refused (FirstBreak t) r → Refused (RefusesFile bytes) r
-  refuses_rules = refused_by (FirstBreak t) (RefusesFile bytes) (λ f h. no_rules is h)
-
-  pub none_at_rules : {X : Type 0} (r : Result X Refusal) → Refused (FirstBreak t) r → Refused (λ f. FileTakes bytes 0) r
-  none_at_rules = refused_by (FirstBreak t) (λ f. FileTakes bytes 0) (λ f h. takes.no_rules is h)
+  pub none_at_rules : (e : Refusal) → IfAt e (FirstBreak t) → IfAt e (λ f. FileTakes bytes 0)
+  none_at_rules = at_by (FirstBreak t) (λ f. FileTakes bytes 0) (λ f h. takes.no_rules is h)

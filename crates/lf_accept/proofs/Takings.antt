@@ -17,8 +17,8 @@ use Rattle.lf_lex.specs.declared.token.Token.{Token}
 use Rattle.lf_lex.proofs.TokenLaws.{one_answer as one_lexing}
 use Rattle.lf_parse.specs.Answer.{IsExpression, Refuses}
 use Rattle.lf_parse.proofs.Answering.{one_reading as one_parsing}
-use Rattle.lf_rules.specs.Sources.{Source, source}
-use Rattle.lf_rules.specs.declared.source.RuleSource.{RuleSource}
+use Rattle.lf_rules.specs.Sources.{Source, source_in}
+use Rattle.lf_rules.specs.declared.source.RuleInTree.{RuleInTree}
 use Rattle.lf_scalar.specs.Cells.{Value}
 use Rattle.lf_semantics.specs.PatternBreaches.{TellsPattern}
 use Rattle.lf_accept.specs.Accepted.{BreaksExpr, IsExpr, IsAcceptedRule, Says, bad_pattern, bad_tokens, end_of, no_expression, no_type}
@@ -88,19 +88,19 @@ module _ (file : ℕ) where
       subst (RulesTake (s ∷ (ss ++ rest))) sum (accepted r.expr h.0.0 (taken_before ss rest rs n h.1 k))
 
 -- where a rule is refused
-module _ (file : ℕ) (sources : List RuleSource) (i : ℕ) (s : RuleSource) (inside : i < length sources) (is : s ≡ get_or sources i s) (rules : List Rule)
-    (h : AllZip (IsAcceptedRule file) (map source (take i sources)) (rule_trees rules)) (start left now : ℕ) (before : start ≡ sum_by count_of_rule (rule_trees rules) + left) where
-  rules_for : (f : Fault) → RefusedFor (source s).expr left now f → TakenOf (RulesTake (map source sources)) start now
+module _ (file : ℕ) (sources : List RuleInTree) (i : ℕ) (s : RuleInTree) (inside : i < length sources) (is : s ≡ get_or sources i s) (rules : List Rule)
+    (h : AllZip (IsAcceptedRule file) (map source_in (take i sources)) (rule_trees rules)) (start left now : ℕ) (before : start ≡ sum_by count_of_rule (rule_trees rules) + left) where
+  rules_for : (f : Fault) → RefusedFor (source_in s).expr left now f → TakenOf (RulesTake (map source_in sources)) start now
   rules_for f b =
       let n : ℕ = sum_by count_of_rule (rule_trees rules) + taken_at b.0 in
-      let all : RulesTake (map source (take i sources) ++ source s ∷ map source (drop (suc i) sources)) n =
-      taken_before file (map source (take i sources)) (source s ∷ map source (drop (suc i) sources)) (rule_trees rules) (taken_at b.0) h (refused b.0) in
+      let all : RulesTake (map source_in (take i sources) ++ source_in s ∷ map source_in (drop (suc i) sources)) n =
+      taken_before file (map source_in (take i sources)) (source_in s ∷ map source_in (drop (suc i) sources)) (rule_trees rules) (taken_at b.0) h (refused b.0) in
       let e = b.1 in
       let sum : start ≡ n + now = omega (arith, before, e) in
       (n, subst (λ ss. RulesTake ss n) (sym (cut file sources i s inside is rules h)) all, sum)
 
-  pub rules_so : (r : Refusal) → IfAt r (RefusedFor (source s).expr left now) → IfAt r (λ f. TakenOf (RulesTake (map source sources)) start now)
-  rules_so = at_by (RefusedFor (source s).expr left now) (λ f. TakenOf (RulesTake (map source sources)) start now) rules_for
+  pub rules_so : (r : Refusal) → IfAt r (RefusedFor (source_in s).expr left now) → IfAt r (λ f. TakenOf (RulesTake (map source_in sources)) start now)
+  rules_so = at_by (RefusedFor (source_in s).expr left now) (λ f. TakenOf (RulesTake (map source_in sources)) start now) rules_for
 
 -- ---- files
 

@@ -1,10 +1,9 @@
 //! The rules of a file, or its refusal.
-ghost use Rattle.std.specs.Prelude.{◌≡◌, ◌≤◌, ◌^◌, ℕ, length, map, List, IfOk};
+ghost use Rattle.std.specs.Prelude.{◌≡◌, ◌≤◌, ◌^◌, ℕ, length, List, IfOk};
 ghost use Rattle.std.specs.List.{sum_by};
 ghost use Rattle.lf_base.specs.Answers.{Breach, Found, OneAnswer, Only, Refused, RefusedIn};
 ghost use Rattle.lf_ast.specs.Rules.{rule_trees};
-ghost use Rattle.lf_rules.specs.Sources.{SourcesInside, source};
-ghost use Rattle.lf_accept.specs.Accepted.{IsAccepted, RefusesFile, Says};
+ghost use Rattle.lf_accept.specs.Accepted.{IsAccepted, RefusesFile};
 ghost use Rattle.lf_accept.specs.Allowance.{TakesAllowance, count_of_rule, most};
 ghost use Rattle.lf_accept.specs.Taken.{FileTakes, IfTold};
 
@@ -13,7 +12,7 @@ use crate::rules::rules_of;
 use lf_ast::Rule;
 use lf_base::{Refusal, Seq};
 use lf_classes::ReadPatterns;
-use lf_rules::{RuleSource, read_rules};
+use lf_rules::rules_in_tree;
 use lf_yaml::read_tree;
 use std::alloc::Global;
 
@@ -80,23 +79,11 @@ fn read(
     ensures taken { IfTold result ((n : ℕ) × FileTakes bytes.now n × TakesAllowance n allowance.old allowance.new) }
     ensures counted { IfOk result (λ rules. TakesAllowance (sum_by count_of_rule (rule_trees rules)) allowance.old allowance.new) }
 {
-    let sources = sources_of(alloc, bytes)?;
+    // The rules are read where they stand in the tree, without copies.
+    let tree = read_tree(alloc, bytes)?;
+    let sources = rules_in_tree(alloc, &tree)?;
     let mut known = ReadPatterns::new(alloc);
     rules_of(alloc, allowance, &mut known, sources.as_slice(), file)
-}
-
-/// The rules as they stand in a file, their expressions unread.
-fn sources_of(alloc: Global, bytes: &[u8]) -> Result<Seq<RuleSource>, Refusal>
-    requires room { length bytes.now ≤ 2 ^ 31 }
-    ensures found { Found (map source) (Says bytes.now) result }
-    ensures inside { IfOk result (λ sources. SourcesInside (length bytes.now) (map source sources)) }
-    ensures refused { Refused (RefusesFile bytes.now) result }
-    ensures refused_inside { RefusedIn (length bytes.now) result }
-    // Of a file that says no rules nothing is taken.
-    ensures none_taken { Refused (λ f. FileTakes bytes.now 0) result }
-{
-    let tree = read_tree(alloc, bytes)?;
-    read_rules(alloc, &tree)
 }
 
 /// What is taken of a file of any bytes is one count.
