@@ -37,11 +37,11 @@ all-counted text i le = ap (λ (xs : List ℕ). characters (cells (0 + i) xs)) (
 
 -- ---- keys
 
-abbrev by : Option Split → Bool
+abbrev pub by : Option Split → Bool
 by None = false
 by (Some x) = is_key_left_out x.0
 
-tested : (cs : List Cell) (o : Option Split) → begins_plain cs ≡ true → o ≡ key_in never before_blank cs → has_bare_left_out cs ≡ by o
+pub tested : (cs : List Cell) (o : Option Split) → begins_plain cs ≡ true → o ≡ key_in never before_blank cs → has_bare_left_out cs ≡ by o
 tested cs None p e = rw (p, ← e) refl
 tested cs (Some x) p e = rw (p, ← e) refl
 

@@ -43,6 +43,7 @@ pub mod Cuts
 pub mod PartCode
 pub mod KeyCode
 pub mod KeyText
+pub mod ShortKeys
 pub mod PlainLines
 pub mod LinesOn
 pub mod FlowPlaces

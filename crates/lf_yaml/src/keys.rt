@@ -6,7 +6,7 @@ ghost use Rattle.lf_scalar.specs.Plain.{before_blank};
 ghost use Rattle.lf_scalar.specs.Folding.{trimmed as trimmed_of};
 ghost use Rattle.lf_yaml.specs.Keys.{key_in, begins_character, characters, is_too_far as is_too_far_of, is_key_left_out as is_key_left_out_of, has_bare_left_out as has_bare_left_out_of, has_key_left_out as has_key_left_out_of};
 ghost use Rattle.lf_scalar.specs.Splits.{split_of};
-ghost use Rattle.lf_yaml.specs.views.Signs.{stops_of};
+ghost use Rattle.lf_yaml.specs.views.Signs.{begins_null, stops_of};
 
 use crate::entry::begins_plain;
 use crate::far_keys::has_far_key;
@@ -128,10 +128,25 @@ pub fn is_key_left_out(front: &[u8]) -> bool
     is_null_text(trimmed(front)) || is_too_far(front)
 }
 
+/// Whether a text begins with the first byte of `null`, `Null`, `NULL` or `~`.
+fn begins_null(text: &[u8]) -> bool
+    ensures { result ≡ begins_null text.now }
+{
+    match text {
+        [b'n' | b'N' | b'~', ..] => true,
+        [_, ..] => false,
+        [] => false,
+    }
+}
+
 /// Whether a text begins with a key without quotes of a block mapping that is left out.
 fn has_bare_left_out(text: &[u8], at: u32) -> bool
     ensures { result ≡ has_bare_left_out_of (cells at text.now) }
 {
+    // Hardly a text is long or begins as a null, and in no other one is the key left out, wherever its `:` stands.
+    if !begins_null(text) && text.len() <= 1024 {
+        return false;
+    }
     if !begins_plain(text) {
         return false;
     }

@@ -1,5 +1,6 @@
 use Rattle.std.proofs.Common.{sym, ◌∙◌}
 use Rattle.lf_yaml.proofs.KeyText.{key-found, key-missing, not-plain}
+use Rattle.lf_yaml.proofs.ShortKeys.{short-key}
 use Rattle.lf_yaml.proofs.keys.has_bare_left_out.Goals as goal
 
 pub returns-then-not-begins_plain : goal.returns-then-not-begins_plain
@@ -12,3 +13,6 @@ returns-in-Some c =
 
 pub returns-in-None : goal.returns-in-None
 returns-in-None c = key-missing c.args.at c.args.text.now c.in-None.ensures.value (sym (c.begins_plain.ensures c.args.at) ∙ c.if-not-begins_plain.false)
+
+pub returns-then-text-le1024 : goal.returns-then-text-le1024
+returns-then-text-le1024 c = short-key c.args.at c.args.text.now c.if-text-le1024.true (sym c.begins_null.ensures ∙ c.if-not-begins_null.true)
