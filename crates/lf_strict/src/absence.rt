@@ -10,17 +10,18 @@ ghost use Rattle.lf_witness.specs.Strict.{From, IsOnlyWhereEmpty, IsSet, StrictA
 ghost use Rattle.lf_witness.specs.StrictRuns.{InOrder, IsStrictAnswer};
 ghost use Rattle.lf_witness.proofs.SomeSample.{sought_labels};
 
+use crate::lending::Samples;
 use lf_ast::{Expr, LabelSet, MatchOp, Matcher};
-use lf_base::{Memory, Seq, Text};
+use lf_base::{Memory, Text};
 use lf_nodes::{is_metric, leaves_open, sought_in};
 use std::alloc::Global;
 
 /// What an `absent` of these arguments gives of an operand: None where it is open, and else its sample exactly where the operand has none.
-pub fn absent(
+pub fn absent<'a>(
     alloc: Global,
     args: &[Expr],
-    operand: &Option<Seq<LabelSet>>,
-) -> Result<Option<Seq<LabelSet>>, Memory>
+    operand: &Option<Samples<'_>>,
+) -> Result<Option<Samples<'a>>, Memory>
     ensures { (W : List Labels) (e : Tree) → IsStrictAnswer W e operand.now → IfOk result (InOrder (StrictAbsent (sought_in (trees args.now)) (StrictlyEvaluates W e))) }
 {
     match sought_in(args) {
@@ -36,21 +37,19 @@ pub fn absent(
 }
 
 /// The sample exactly where the operand has none.
-fn where_empty(
+fn where_empty<'a>(
     alloc: Global,
     one: LabelSet,
-    operand: &Option<Seq<LabelSet>>,
-) -> Result<Option<Seq<LabelSet>>, Memory>
+    operand: &Option<Samples<'_>>,
+) -> Result<Option<Samples<'a>>, Memory>
     ensures { (W : List Labels) (e : Tree) → IsStrictAnswer W e operand.now → IfOk result (InOrder (From (StrictlyEvaluates W e) (λ P. IsSet (IsOnlyWhereEmpty one P)))) }
 {
     match operand {
         Some(samples) => {
-            let mut given = Seq::new(alloc);
             if samples.len() > 0 {
-                return Ok(Some(given));
+                return Ok(Some(Samples::new(alloc)));
             }
-            given.push(one)?;
-            Ok(Some(given))
+            Ok(Some(Samples::alone(one)))
         }
         None => Ok(None),
     }

@@ -8,29 +8,29 @@ ghost use Rattle.lf_witness.specs.Ascending.{IsAscending};
 ghost use Rattle.lf_witness.specs.Strict.{AreSame};
 ghost use Rattle.lf_strict.specs.views.Apart.{AreApart};
 
+use crate::lending::Samples;
 use lf_ast::LabelSet;
-use lf_base::Seq;
 
 /// These label sets in ascending order, unless two of them are equal.
-pub fn apart(made: Vec<LabelSet>) -> Option<Seq<LabelSet>>
+pub fn apart<'a>(made: Vec<LabelSet>) -> Option<Samples<'a>>
     ensures { AreApart made.items result }
 {
     let made = sorted(made);
     if has_equal_neighbours(made.as_slice()) {
         None
     } else {
-        Some(Seq::from_vec(made))
+        Some(Samples::from_vec(made))
     }
 }
 
 /// These label sets in ascending order, of which equal ones count once.
-pub fn together(made: Vec<LabelSet>) -> Seq<LabelSet>
+pub fn together<'a>(made: Vec<LabelSet>) -> Samples<'a>
     ensures same { AreSame made.items result }
     ensures ascends { IsAscending result }
 {
     let mut made = sorted(made);
     made.dedup();
-    Seq::from_vec(made)
+    Samples::from_vec(made)
 }
 
 /// These label sets in order. Most often there is one.

@@ -7,6 +7,7 @@ ghost use Rattle.lf_witness.specs.Strict.{MadeApart, MadeTogether};
 ghost use Rattle.lf_witness.specs.StrictRuns.{InOrder};
 
 use crate::apart::{apart, together};
+use crate::lending::{Held, Samples};
 use lf_ast::LabelSet;
 use lf_base::{Memory, Seq};
 use std::alloc::Global;
@@ -20,54 +21,64 @@ pub trait Becoming {
     fn of(&self, alloc: Global, sample: LabelSet) -> Result<LabelSet, Memory>
         ensures { IfOk result (λ made. becomes self.now sample made) };
 
+    /// What a stored sample becomes.
+    fn of_lent(&self, alloc: Global, sample: &LabelSet) -> Result<LabelSet, Memory>
+        ensures { IfOk result (λ made. becomes self.now sample.now made) };
+
     /// It is one.
     ghost one: { (how : Self) (s t u : Labels) → becomes how s t → becomes how s u → t ≡ u };
 }
 
 /// What the samples become, in ascending order, and None where two become one. Most sets have one sample, which isn't put in order.
-pub fn made_apart<B: Becoming>(
+pub fn made_apart<'a, B: Becoming>(
     alloc: Global,
     how: &B,
-    samples: Seq<LabelSet>,
-) -> Result<Option<Seq<LabelSet>>, Memory>
+    samples: Samples<'_>,
+) -> Result<Option<Samples<'a>>, Memory>
     requires { IsAscending samples }
-    ensures { IfOk result (InOrder (MadeApart (B.becomes how.now) samples)) }
+    ensures { IfOk result (InOrder (MadeApart (B.becomes how.now) samples.entry)) }
 {
     if samples.len() == 1 {
         return Ok(Some(only_made(alloc, how, samples)?));
     }
-    let made = each_made(alloc, how, samples)?;
+    let listed = samples.into_list(alloc)?;
+    let made = each_made(alloc, how, listed)?;
     Ok(apart(made))
 }
 
 /// What the samples become, in ascending order, where those that become one count once.
-pub fn made_together<B: Becoming>(
+pub fn made_together<'a, B: Becoming>(
     alloc: Global,
     how: &B,
-    samples: Seq<LabelSet>,
-) -> Result<Seq<LabelSet>, Memory>
-    ensures { IfOk result (λ set. InOrder (MadeTogether (B.becomes how.now) samples) (Some set)) }
+    samples: Samples<'_>,
+) -> Result<Samples<'a>, Memory>
+    ensures { IfOk result (λ set. InOrder (MadeTogether (B.becomes how.now) samples.entry) (Some set)) }
 {
     if samples.len() == 1 {
         return only_made(alloc, how, samples);
     }
-    let made = each_made(alloc, how, samples)?;
+    let listed = samples.into_list(alloc)?;
+    let made = each_made(alloc, how, listed)?;
     Ok(together(made))
 }
 
 /// What the only sample becomes, in its place.
-fn only_made<B: Becoming>(
+fn only_made<'a, B: Becoming>(
     alloc: Global,
     how: &B,
-    mut samples: Seq<LabelSet>,
-) -> Result<Seq<LabelSet>, Memory>
+    samples: Samples<'_>,
+) -> Result<Samples<'a>, Memory>
     requires { length samples ≡ 1 }
-    ensures { IfOk result (AllZip (B.becomes how.now) samples) }
+    ensures { IfOk result (AllZip (B.becomes how.now) samples.entry) }
 {
-    if let Some(sample) = samples.pop() {
-        samples.push(how.of(alloc, sample)?)?;
+    match samples.held {
+        Held::Lent { sample } => Ok(Samples::alone(how.of_lent(alloc, sample)?)),
+        Held::Alone { sample } => Ok(Samples::alone(how.of(alloc, sample)?)),
+        Held::Listed { samples } => {
+            let made = each_made(alloc, how, Seq::from_vec(samples))?;
+            Ok(Samples::from_vec(made))
+        }
     }
-    Ok(samples)
 }
 
 /// What each sample becomes.

@@ -8,8 +8,9 @@ ghost use Rattle.lf_witness.specs.Strict.{last_buckets};
 
 use crate::becoming::Becoming;
 use crate::choosing::AllButNameAndBucket;
+use crate::lending::Samples;
 use lf_ast::LabelSet;
-use lf_base::{Memory, Seq};
+use lf_base::Memory;
 use std::alloc::Global;
 
 /// A sample loses `le` and the metric name.
@@ -22,12 +23,16 @@ impl Becoming for Unbucketed {
     ghost one = { λ how s t u a b. a ∙ sym b };
 
     fn of(&self, alloc: Global, sample: LabelSet) -> Result<LabelSet, Memory> {
+        self.of_lent(alloc, &sample)
+    }
+
+    fn of_lent(&self, alloc: Global, sample: &LabelSet) -> Result<LabelSet, Memory> {
         sample.kept(&AllButNameAndBucket)
     }
 }
 
 /// The samples of the last bucket, which has no upper bound.
-pub fn last_buckets(alloc: Global, samples: &[LabelSet]) -> Result<Seq<LabelSet>, Memory>
+pub fn last_buckets<'a>(alloc: Global, samples: &[LabelSet]) -> Result<Samples<'a>, Memory>
     ensures { IfOk result (λ last. last ≡ last_buckets samples.now) }
 {
     let mut last = Vec::new(alloc);
@@ -36,7 +41,7 @@ pub fn last_buckets(alloc: Global, samples: &[LabelSet]) -> Result<Seq<LabelSet>
             last.push(sample.copy()?)?;
         }
     }
-    Ok(Seq::from_vec(last))
+    Ok(Samples::from_vec(last))
 }
 
 /// Whether a sample is of the last bucket.

@@ -11,24 +11,25 @@ ghost use Rattle.lf_witness.specs.StrictRuns.{InOrder, IsStrictAnswer};
 
 use crate::absence::absent;
 use crate::joining::Joined;
+use crate::lending::Samples;
 use crate::operand::{operand_apart, operand_together, quantile};
 use crate::replacing::replaced;
 use crate::samples::{CountedAsOne, Grouped, Nameless};
 use crate::sets::bare;
 use lf_ast::{Expr, Function, Grouping, LabelEffect, LabelSet, text_at};
-use lf_base::{Memory, Seq, Text};
+use lf_base::{Memory, Text};
 use std::alloc::Global;
 
 /// What a call of a function gives of its operand, which is None where there is no such argument. A call of no function is None.
-pub fn called(
+pub fn called<'a>(
     alloc: Global,
     function: Option<Function>,
     grouping: &Grouping,
     args: &[Expr],
-    operand: Option<Seq<LabelSet>>,
-) -> Result<Option<Seq<LabelSet>>, Memory>
+    operand: Option<Samples<'a>>,
+) -> Result<Option<Samples<'a>>, Memory>
     requires { IfSome operand IsAscending }
-    ensures { (W : List Labels) (e : Tree) → IsStrictAnswer W e operand → IfOk result (InOrder (StrictCall (option_map signature_of function) grouping.now (trees args.now) (λ place. StrictlyEvaluates W e))) }
+    ensures { (W : List Labels) (e : Tree) → IsStrictAnswer W e operand.entry → IfOk result (InOrder (StrictCall (option_map signature_of function) grouping.now (trees args.now) (λ place. StrictlyEvaluates W e))) }
 {
     match function {
         Some(function) => effect(alloc, function.labels, grouping, args, operand),
@@ -37,15 +38,15 @@ pub fn called(
 }
 
 /// What a function or an aggregation with this effect gives of its operand.
-fn effect(
+fn effect<'a>(
     alloc: Global,
     effect: LabelEffect,
     grouping: &Grouping,
     args: &[Expr],
-    operand: Option<Seq<LabelSet>>,
-) -> Result<Option<Seq<LabelSet>>, Memory>
+    operand: Option<Samples<'a>>,
+) -> Result<Option<Samples<'a>>, Memory>
     requires { IfSome operand IsAscending }
-    ensures { (W : List Labels) (e : Tree) → IsStrictAnswer W e operand → IfOk result (InOrder (StrictEffect effect grouping.now (trees args.now) (StrictlyEvaluates W e))) }
+    ensures { (W : List Labels) (e : Tree) → IsStrictAnswer W e operand.entry → IfOk result (InOrder (StrictEffect effect grouping.now (trees args.now) (StrictlyEvaluates W e))) }
 {
     match effect {
         LabelEffect::Maps => operand_apart(alloc, &Nameless, operand),
@@ -57,18 +58,18 @@ fn effect(
         LabelEffect::LabelReplace => replaced(alloc, args, &operand),
         LabelEffect::LabelJoin => operand_apart(alloc, &Joined { args }, operand),
         LabelEffect::HistogramQuantile => quantile(alloc, &operand),
-        LabelEffect::Bare => Ok(Some(bare(alloc)?)),
+        LabelEffect::Bare => Ok(Some(bare(alloc))),
     }
 }
 
 /// What `count_values` gives: each group with `1` as the text of the label that the first argument names.
-fn count_values(
+fn count_values<'a>(
     alloc: Global,
     grouping: &Grouping,
     args: &[Expr],
-    operand: Option<Seq<LabelSet>>,
-) -> Result<Option<Seq<LabelSet>>, Memory>
-    ensures { (W : List Labels) (e : Tree) → IsStrictAnswer W e operand → IfOk result (InOrder (From (StrictlyEvaluates W e) (MadeTogether (IsCountedAsOne grouping.now (text_at (texts_of (trees args.now)) 0))))) }
+    operand: Option<Samples<'a>>,
+) -> Result<Option<Samples<'a>>, Memory>
+    ensures { (W : List Labels) (e : Tree) → IsStrictAnswer W e operand.entry → IfOk result (InOrder (From (StrictlyEvaluates W e) (MadeTogether (IsCountedAsOne grouping.now (text_at (texts_of (trees args.now)) 0))))) }
 {
     let label = Text::of(alloc, text_at(args, 0))?;
     operand_together(
@@ -82,16 +83,16 @@ fn count_values(
 }
 
 /// What a function of dates gives: without an argument it speaks of now.
-fn date(
+fn date<'a>(
     alloc: Global,
     args: &[Expr],
-    operand: Option<Seq<LabelSet>>,
-) -> Result<Option<Seq<LabelSet>>, Memory>
+    operand: Option<Samples<'a>>,
+) -> Result<Option<Samples<'a>>, Memory>
     requires { IfSome operand IsAscending }
-    ensures { (W : List Labels) (e : Tree) → IsStrictAnswer W e operand → IfOk result (InOrder (StrictDate (trees args.now) (StrictlyEvaluates W e))) }
+    ensures { (W : List Labels) (e : Tree) → IsStrictAnswer W e operand.entry → IfOk result (InOrder (StrictDate (trees args.now) (StrictlyEvaluates W e))) }
 {
     match args {
-        [] => Ok(Some(bare(alloc)?)),
+        [] => Ok(Some(bare(alloc))),
         [_, ..] => operand_apart(alloc, &Nameless, operand),
     }
 }

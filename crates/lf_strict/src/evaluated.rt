@@ -12,6 +12,7 @@ ghost use Rattle.lf_witness.specs.StrictRuns.{InOrder, IsStrictAnswer};
 ghost use Rattle.lf_strict.specs.views.Evaluated.{operand_of};
 
 use crate::effects::called;
+use crate::lending::Samples;
 use crate::operand::behind_sign;
 use crate::operating::operated;
 use crate::store::Store;
@@ -20,21 +21,21 @@ use lf_ast::{
     Expr, ExprType, Function, Grouping, LabelSet, Matcher, Matching, Op, is_scalar, joined,
     selected,
 };
-use lf_base::{Memory, Seq, Text};
+use lf_base::{Memory, Text};
 use lf_nodes::the_only;
 use std::alloc::Global;
 
 /// What an expression gives, and the type that its form tells.
 #[derive(Drop)]
-pub struct Evaluated {
-    pub answer: Option<Seq<LabelSet>>,
+pub struct Evaluated<'a> {
+    pub answer: Option<Samples<'a>>,
     pub form: ExprType,
 }
 
 /// What the only one of these gives, and None where there is none.
-pub fn operand(parts: Vec<Evaluated>) -> Option<Seq<LabelSet>>
+pub fn operand<'a>(parts: Vec<Evaluated<'a>>) -> Option<Samples<'a>>
     requires { length parts.items ≤ 1 }
-    ensures { result ≡ operand_of parts.items }
+    ensures { result ≡ operand_of parts.entry.items }
 {
     if parts.is_empty() {
         None
@@ -44,13 +45,13 @@ pub fn operand(parts: Vec<Evaluated>) -> Option<Seq<LabelSet>>
 }
 
 /// A selector.
-pub fn selector(
+pub fn selector<'a>(
     alloc: Global,
-    store: &Store,
+    store: &'a Store<'a>,
     name: &Option<Text>,
     matchers: &[Matcher],
     range: &Option<Text>,
-) -> Result<Evaluated, Memory>
+) -> Result<Evaluated<'a>, Memory>
     ensures answer { IfOk result (λ made. InOrder (IsSet (AreSelected store.now name.now matchers.now)) made.answer) }
     ensures form { IfOk result (λ made. made.form ≡ selected range.now) }
 {
@@ -62,10 +63,14 @@ pub fn selector(
 }
 
 /// A sign before an operand.
-pub fn signed(alloc: Global, minus: bool, operand: Evaluated) -> Result<Evaluated, Memory>
+pub fn signed<'a>(
+    alloc: Global,
+    minus: bool,
+    operand: Evaluated<'a>,
+) -> Result<Evaluated<'a>, Memory>
     requires { IfSome operand.answer IsAscending }
-    ensures answer { (W : List Labels) (e : Tree) → IsStrictAnswer W e operand.answer → IfOk result (λ made. InOrder (StrictSign minus (StrictlyEvaluates W e)) made.answer) }
-    ensures form { IfOk result (λ made. made.form ≡ operand.form) }
+    ensures answer { (W : List Labels) (e : Tree) → IsStrictAnswer W e operand.entry.answer → IfOk result (λ made. InOrder (StrictSign minus (StrictlyEvaluates W e)) made.answer) }
+    ensures form { IfOk result (λ made. made.form ≡ operand.entry.form) }
 {
     let form = operand.form;
     let answer = behind_sign(alloc, minus, operand.answer)?;
@@ -73,17 +78,17 @@ pub fn signed(alloc: Global, minus: bool, operand: Evaluated) -> Result<Evaluate
 }
 
 /// An operator between two sides. What a scalar gives isn't looked at.
-pub fn binary(
+pub fn binary<'a>(
     alloc: Global,
     op: Op,
     matching: &Matching,
-    left: Evaluated,
-    right: Evaluated,
-) -> Result<Evaluated, Memory>
+    left: Evaluated<'a>,
+    right: Evaluated<'a>,
+) -> Result<Evaluated<'a>, Memory>
     requires left { IfSome left.answer IsAscending }
     requires right { IfSome right.answer IsAscending }
-    ensures answer { (W : List Labels) (d e : Tree) → IsStrictAnswer W d left.answer → IsStrictAnswer W e right.answer → IfOk result (λ made. InOrder (StrictBinary op matching.now (is_scalar left.form) (is_scalar right.form) (StrictlyEvaluates W d) (StrictlyEvaluates W e)) made.answer) }
-    ensures form { IfOk result (λ made. made.form ≡ joined left.form right.form) }
+    ensures answer { (W : List Labels) (d e : Tree) → IsStrictAnswer W d left.entry.answer → IsStrictAnswer W e right.entry.answer → IfOk result (λ made. InOrder (StrictBinary op matching.now (is_scalar left.entry.form) (is_scalar right.entry.form) (StrictlyEvaluates W d) (StrictlyEvaluates W e)) made.answer) }
+    ensures form { IfOk result (λ made. made.form ≡ joined left.entry.form right.entry.form) }
 {
     let form = joined(left.form, right.form);
     let answer = operated(
@@ -99,15 +104,15 @@ pub fn binary(
 }
 
 /// A call of a function, or of none, with what its operand gives.
-pub fn call(
+pub fn call<'a>(
     alloc: Global,
     function: Option<Function>,
     grouping: &Grouping,
     args: &[Expr],
-    operand: Option<Seq<LabelSet>>,
-) -> Result<Evaluated, Memory>
+    operand: Option<Samples<'a>>,
+) -> Result<Evaluated<'a>, Memory>
     requires { IfSome operand IsAscending }
-    ensures answer { (W : List Labels) (e : Tree) → IsStrictAnswer W e operand → IfOk result (λ made. InOrder (StrictCall (option_map signature_of function) grouping.now (trees args.now) (λ place. StrictlyEvaluates W e)) made.answer) }
+    ensures answer { (W : List Labels) (e : Tree) → IsStrictAnswer W e operand.entry → IfOk result (λ made. InOrder (StrictCall (option_map signature_of function) grouping.now (trees args.now) (λ place. StrictlyEvaluates W e)) made.answer) }
     ensures form { IfOk result (λ made. made.form ≡ given_by (option_map signature_of function)) }
 {
     let form = given_by(&function);

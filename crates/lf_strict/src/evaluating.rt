@@ -40,11 +40,18 @@ pub fn evaluate(alloc: Global, store: &Store, expr: &Expr) -> Result<Option<Seq<
     ensures { IfOk result (IsStrictAnswer store.now (tree expr.now)) }
 {
     let evaluated = fold_up(alloc, &Evaluation { store }, expr)?;
-    Ok(evaluated.answer)
+    match evaluated.answer {
+        Some(samples) => Ok(Some(samples.into_list(alloc)?)),
+        None => Ok(None),
+    }
 }
 
 /// What an expression strictly gives over a store, and the type that its form tells.
-pub fn evaluated(alloc: Global, store: &Store, expr: &Expr) -> Result<Evaluated, Memory>
+pub fn evaluated<'a>(
+    alloc: Global,
+    store: &'a Store<'a>,
+    expr: &Expr,
+) -> Result<Evaluated<'a>, Memory>
     ensures { IfOk result (λ made. made ≡ evaluated store.now (tree expr.now)) }
 {
     fold_up(alloc, &Evaluation { store }, expr)
@@ -57,7 +64,7 @@ struct Evaluation<'a> {
 }
 
 impl<'a> Fold for Evaluation<'a> {
-    type Value = Evaluated;
+    type Value = Evaluated<'a>;
 
     type Note = Option<Function>;
 
@@ -83,8 +90,8 @@ impl<'a> Fold for Evaluation<'a> {
         alloc: Global,
         expr: &Expr,
         function: Option<Function>,
-        values: Vec<Evaluated>,
-    ) -> Result<Evaluated, Memory>
+        values: Vec<Evaluated<'a>>,
+    ) -> Result<Evaluated<'a>, Memory>
         requires function { option_map signature_of function ≡ called_by (tree expr.now) }
         requires values { values.items ≡ map (evaluated self.now.store.now) (chosen (parts_needed (tree expr.now)) (parts_of (tree expr.now))) }
         ensures { IfOk result (λ made. made ≡ evaluated self.now.store.now (tree expr.now)) }
@@ -94,13 +101,13 @@ impl<'a> Fold for Evaluation<'a> {
 }
 
 /// What an expression gives, from what it calls and what its parts give.
-fn from_parts(
+fn from_parts<'a>(
     alloc: Global,
-    store: &Store,
+    store: &'a Store<'a>,
     expr: &Expr,
     function: Option<Function>,
-    parts: Vec<Evaluated>,
-) -> Result<Evaluated, Memory>
+    parts: Vec<Evaluated<'a>>,
+) -> Result<Evaluated<'a>, Memory>
     requires function { option_map signature_of function ≡ called_by (tree expr.now) }
     requires parts { parts.items ≡ map (evaluated store.now) (chosen (parts_needed (tree expr.now)) (parts_of (tree expr.now))) }
     ensures answer { IfOk result (λ made. IsStrictAnswer store.now (tree expr.now) made.answer) }
@@ -108,7 +115,7 @@ fn from_parts(
 {
     match expr {
         Expr::Number { .. } => Ok(Evaluated {
-            answer: Some(bare(alloc)?),
+            answer: Some(bare(alloc)),
             form: ExprType::Scalar,
         }),
         Expr::Str { .. } => Ok(Evaluated {

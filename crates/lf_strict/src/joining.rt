@@ -36,6 +36,10 @@ impl<'a> Becoming for Joined<'a> {
         sample.set(&target, &text)?;
         Ok(sample)
     }
+
+    fn of_lent(&self, alloc: Global, sample: &LabelSet) -> Result<LabelSet, Memory> {
+        self.of(alloc, sample.copy()?)
+    }
 }
 
 /// The texts that a sample has of these sources, with a separator between each two.

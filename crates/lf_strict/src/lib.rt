@@ -10,6 +10,7 @@ mod effects;
 mod evaluated;
 mod evaluating;
 mod joining;
+mod lending;
 mod named_samples;
 mod operand;
 mod operating;

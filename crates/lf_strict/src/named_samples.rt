@@ -7,10 +7,11 @@ ghost use Rattle.lf_semantics.specs.Texts.{value_of};
 ghost use Rattle.lf_witness.specs.Strict.{AreSame, AreSelected, IsSet};
 ghost use Rattle.lf_witness.specs.StrictRuns.{InOrder};
 
+use crate::lending::Samples;
 use crate::sample_set::SampleSet;
 use crate::selecting::text_of;
 use lf_ast::{LabelSet, Matcher};
-use lf_base::{Memory, Seq, Text};
+use lf_base::{Memory, Text};
 use lf_classes::Universe;
 use std::alloc::Global;
 use std::collections::BTreeMap;
@@ -73,21 +74,21 @@ impl NamedSamples {
     }
 
     /// The samples that have the name and pass the matchers, where only such of one metric name do.
-    pub fn select_named(
+    pub fn select_named<'a>(
         &self,
         alloc: Global,
         universe: Option<&Universe>,
         sought: &Text,
         name: &Option<Text>,
         matchers: &[Matcher],
-    ) -> Result<Seq<LabelSet>, Memory>
+    ) -> Result<Samples<'a>, Memory>
         requires { (s : Labels) → HasName name.now s → PassesEach matchers.now s → value_of s metric ≡ sought.now }
         ensures { IfOk result (λ set. InOrder (IsSet (AreSelected self.now name.now matchers.now)) (Some set)) }
     {
         let _count = self.by_name.len();
         match self.by_name.get(sought.as_str()) {
             Some(samples) => samples.select(alloc, universe, name, matchers),
-            None => Ok(Seq::new(alloc)),
+            None => Ok(Samples::new(alloc)),
         }
     }
 }

@@ -9,19 +9,20 @@ ghost use Rattle.lf_witness.specs.StrictRuns.{InOrder, IsStrictAnswer};
 
 use crate::becoming::{Becoming, made_apart, made_together};
 use crate::buckets::{Unbucketed, last_buckets};
+use crate::lending::Samples;
 use crate::samples::Nameless;
 use lf_ast::LabelSet;
-use lf_base::{Memory, Seq};
+use lf_base::Memory;
 use std::alloc::Global;
 
 /// What the samples of an operand become, and None where it is None or two become one.
-pub fn operand_apart<B: Becoming>(
+pub fn operand_apart<'a, B: Becoming>(
     alloc: Global,
     how: &B,
-    operand: Option<Seq<LabelSet>>,
-) -> Result<Option<Seq<LabelSet>>, Memory>
+    operand: Option<Samples<'a>>,
+) -> Result<Option<Samples<'a>>, Memory>
     requires { IfSome operand IsAscending }
-    ensures { (W : List Labels) (e : Tree) → IsStrictAnswer W e operand → IfOk result (InOrder (From (StrictlyEvaluates W e) (MadeApart (B.becomes how.now)))) }
+    ensures { (W : List Labels) (e : Tree) → IsStrictAnswer W e operand.entry → IfOk result (InOrder (From (StrictlyEvaluates W e) (MadeApart (B.becomes how.now)))) }
 {
     match operand {
         Some(samples) => made_apart(alloc, how, samples),
@@ -30,12 +31,12 @@ pub fn operand_apart<B: Becoming>(
 }
 
 /// What the samples of an operand become, where those that become one count once, and None where it is None.
-pub fn operand_together<B: Becoming>(
+pub fn operand_together<'a, B: Becoming>(
     alloc: Global,
     how: &B,
-    operand: Option<Seq<LabelSet>>,
-) -> Result<Option<Seq<LabelSet>>, Memory>
-    ensures { (W : List Labels) (e : Tree) → IsStrictAnswer W e operand → IfOk result (InOrder (From (StrictlyEvaluates W e) (MadeTogether (B.becomes how.now)))) }
+    operand: Option<Samples<'a>>,
+) -> Result<Option<Samples<'a>>, Memory>
+    ensures { (W : List Labels) (e : Tree) → IsStrictAnswer W e operand.entry → IfOk result (InOrder (From (StrictlyEvaluates W e) (MadeTogether (B.becomes how.now)))) }
 {
     match operand {
         Some(samples) => Ok(Some(made_together(alloc, how, samples)?)),
@@ -44,13 +45,13 @@ pub fn operand_together<B: Becoming>(
 }
 
 /// What an operand gives behind a sign: behind a minus without the metric name.
-pub fn behind_sign(
+pub fn behind_sign<'a>(
     alloc: Global,
     minus: bool,
-    operand: Option<Seq<LabelSet>>,
-) -> Result<Option<Seq<LabelSet>>, Memory>
+    operand: Option<Samples<'a>>,
+) -> Result<Option<Samples<'a>>, Memory>
     requires { IfSome operand IsAscending }
-    ensures { (W : List Labels) (e : Tree) → IsStrictAnswer W e operand → IfOk result (InOrder (StrictSign minus (StrictlyEvaluates W e))) }
+    ensures { (W : List Labels) (e : Tree) → IsStrictAnswer W e operand.entry → IfOk result (InOrder (StrictSign minus (StrictlyEvaluates W e))) }
 {
     if minus {
         operand_apart(alloc, &Nameless, operand)
@@ -60,13 +61,13 @@ pub fn behind_sign(
 }
 
 /// What an operand gives beside a scalar: a filter lets all its samples through, and any other operator drops the metric name.
-pub fn beside_scalar(
+pub fn beside_scalar<'a>(
     alloc: Global,
     filter: bool,
-    operand: Option<Seq<LabelSet>>,
-) -> Result<Option<Seq<LabelSet>>, Memory>
+    operand: Option<Samples<'a>>,
+) -> Result<Option<Samples<'a>>, Memory>
     requires { IfSome operand IsAscending }
-    ensures { (W : List Labels) (e : Tree) → IsStrictAnswer W e operand → IfOk result (InOrder (StrictBesideScalar filter (StrictlyEvaluates W e))) }
+    ensures { (W : List Labels) (e : Tree) → IsStrictAnswer W e operand.entry → IfOk result (InOrder (StrictBesideScalar filter (StrictlyEvaluates W e))) }
 {
     if filter {
         Ok(operand)
@@ -76,10 +77,10 @@ pub fn beside_scalar(
 }
 
 /// What `histogram_quantile` gives of an operand: of its last buckets alone.
-pub fn quantile(
+pub fn quantile<'a>(
     alloc: Global,
-    operand: &Option<Seq<LabelSet>>,
-) -> Result<Option<Seq<LabelSet>>, Memory>
+    operand: &Option<Samples<'_>>,
+) -> Result<Option<Samples<'a>>, Memory>
     requires { IfSome operand.now IsAscending }
     ensures { (W : List Labels) (e : Tree) → IsStrictAnswer W e operand.now → IfOk result (InOrder (From (StrictlyEvaluates W e) (λ P. MadeApart IsQuantile (last_buckets P)))) }
 {

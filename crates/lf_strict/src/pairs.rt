@@ -9,20 +9,21 @@ ghost use Rattle.lf_witness.specs.StrictRuns.{InOrder, IsStrictAnswer};
 ghost use Rattle.lf_strict.specs.views.Paired.{ManyPairs};
 
 use crate::apart::apart;
+use crate::lending::Samples;
 use crate::partners::{each_paired, each_with, indexed};
 use crate::signature::{are_apart, by_partner, either};
 use lf_ast::{Group, LabelSet, Matching, Op};
-use lf_base::{Memory, Seq};
+use lf_base::Memory;
 use std::alloc::Global;
 
 /// What an operator gives between two vectors: None where a side is, and but for the operators of sets where the match isn't unique or two pairs have one result.
-pub fn combine(
+pub fn combine<'a>(
     alloc: Global,
     op: Op,
     matching: &Matching,
-    left: &Option<Seq<LabelSet>>,
-    right: &Option<Seq<LabelSet>>,
-) -> Result<Option<Seq<LabelSet>>, Memory>
+    left: &Option<Samples<'_>>,
+    right: &Option<Samples<'_>>,
+) -> Result<Option<Samples<'a>>, Memory>
     requires left { IfSome left.now IsAscending }
     requires right { IfSome right.now IsAscending }
     ensures { (W : List Labels) (d e : Tree) → IsStrictAnswer W d left.now → IsStrictAnswer W e right.now → IfOk result (InOrder (From (StrictlyEvaluates W d) (λ P. From (StrictlyEvaluates W e) (StrictCombines op matching.now P)))) }
@@ -37,13 +38,13 @@ pub fn combine(
 }
 
 /// What an operator gives between the left and the right samples, in ascending order.
-fn between(
+fn between<'a>(
     alloc: Global,
     op: Op,
     matching: &Matching,
-    left: &Seq<LabelSet>,
-    right: &Seq<LabelSet>,
-) -> Result<Option<Seq<LabelSet>>, Memory>
+    left: &Samples<'_>,
+    right: &Samples<'_>,
+) -> Result<Option<Samples<'a>>, Memory>
     requires left { IsAscending left.now }
     requires right { IsAscending right.now }
     ensures { IfOk result (InOrder (StrictCombines op matching.now left.now right.now)) }
@@ -57,13 +58,13 @@ fn between(
 }
 
 /// What the pairs of the left and the right samples give, in ascending order.
-fn paired(
+fn paired<'a>(
     alloc: Global,
     op: Op,
     matching: &Matching,
-    left: &Seq<LabelSet>,
-    right: &Seq<LabelSet>,
-) -> Result<Option<Seq<LabelSet>>, Memory>
+    left: &Samples<'_>,
+    right: &Samples<'_>,
+) -> Result<Option<Samples<'a>>, Memory>
     requires left { IsAscending left.now }
     requires right { IsAscending right.now }
     ensures { IfOk result (InOrder (StrictPairs op matching.now left.now right.now)) }
@@ -76,13 +77,13 @@ fn paired(
 }
 
 /// What the pairs give where both sides are one sides.
-fn one_to_one(
+fn one_to_one<'a>(
     alloc: Global,
     op: Op,
     matching: &Matching,
-    left: &Seq<LabelSet>,
-    right: &Seq<LabelSet>,
-) -> Result<Option<Seq<LabelSet>>, Memory>
+    left: &Samples<'_>,
+    right: &Samples<'_>,
+) -> Result<Option<Samples<'a>>, Memory>
     requires group { matching.now.group ≡ One }
     requires left { IsAscending left.now }
     requires right { IsAscending right.now }
@@ -97,13 +98,13 @@ fn one_to_one(
 }
 
 /// What the pairs of a many side and a one side give, in ascending order. Each sample of the many side looks up its partner by the signature, where there are more than one.
-fn many_to_one(
+fn many_to_one<'a>(
     alloc: Global,
     op: Op,
     matching: &Matching,
-    many: &Seq<LabelSet>,
-    one: &Seq<LabelSet>,
-) -> Result<Option<Seq<LabelSet>>, Memory>
+    many: &Samples<'_>,
+    one: &Samples<'_>,
+) -> Result<Option<Samples<'a>>, Memory>
     requires many { IsAscending many.now }
     requires one { IsAscending one.now }
     ensures { IfOk result (InOrder (ManyPairs op matching.now many.now one.now)) }

@@ -13,10 +13,12 @@ ghost use Rattle.lf_witness.specs.StrictRuns.{InOrder, IsStrictAnswer};
 ghost use Rattle.lf_strict.specs.views.Replaced.{IsExpanded};
 
 use crate::apart::apart;
+use crate::lending::Samples;
 use crate::selecting::text_of;
+use crate::signature::push_each;
 use lf_ast::{Expr, LabelSet, has_dollar, text_at};
 use lf_base::names::is_label_name;
-use lf_base::{Memory, Seq, Text};
+use lf_base::{Memory, Text};
 use lf_pattern::{Pattern, PatternError, is_plain_replacement};
 use std::alloc::Global;
 use std::marker::Model;
@@ -39,11 +41,11 @@ impl Model for Replacing {
 }
 
 /// What a `label_replace` of these arguments gives of an operand: None where the replacement isn't plain, where the operand is None, and where two samples become one.
-pub fn replaced(
+pub fn replaced<'a>(
     alloc: Global,
     args: &[Expr],
-    operand: &Option<Seq<LabelSet>>,
-) -> Result<Option<Seq<LabelSet>>, Memory>
+    operand: &Option<Samples<'_>>,
+) -> Result<Option<Samples<'a>>, Memory>
     requires { IfSome operand.now IsAscending }
     ensures { (W : List Labels) (e : Tree) → IsStrictAnswer W e operand.now → IfOk result (InOrder (Replaced (replacing (texts_of (trees args.now))) (StrictlyEvaluates W e))) }
 {
@@ -55,6 +57,15 @@ pub fn replaced(
         Some(samples) => how.replaced_apart(alloc, samples),
         None => Ok(None),
     }
+}
+
+/// Equal samples.
+fn copied<'a>(alloc: Global, samples: &[LabelSet]) -> Result<Samples<'a>, Memory>
+    ensures { IfOk result (λ all. all ≡ samples.now) }
+{
+    let mut all = Vec::new(alloc);
+    push_each(&mut all, samples)?;
+    Ok(Samples::from_vec(all))
 }
 
 impl Replacing {
@@ -75,11 +86,11 @@ impl Replacing {
     }
 
     /// What the samples become, in ascending order, and None where two become one. A text that is no pattern matches nothing.
-    fn replaced_apart(
+    fn replaced_apart<'a>(
         &self,
         alloc: Global,
-        samples: &Seq<LabelSet>,
-    ) -> Result<Option<Seq<LabelSet>>, Memory>
+        samples: &Samples<'_>,
+    ) -> Result<Option<Samples<'a>>, Memory>
         requires ascending { IsAscending samples.now }
         requires plain { IsPlainReplacement self.now.replacement }
         ensures { IfOk result (InOrder (MadeApart (IsReplaced self.now) samples.now)) }
@@ -89,7 +100,7 @@ impl Replacing {
                 let made = self.each_replaced(alloc, &mut pattern, samples.as_slice())?;
                 Ok(apart(made))
             }
-            Err(PatternError::BadPattern) => Ok(Some(samples.copy()?)),
+            Err(PatternError::BadPattern) => Ok(Some(copied(alloc, samples.as_slice())?)),
             Err(PatternError::Memory) => Err(Memory),
         }
     }

@@ -35,7 +35,8 @@ pub fn strict_run(
 {
     let mut store = Store::of(alloc, None, series)?;
     if run_steps(alloc, &mut store, rules.as_slice(), steps.as_slice())? {
-        Ok(Some(store.in_order(alloc)?))
+        let all = store.in_order(alloc)?.into_list(alloc)?;
+        Ok(Some(all))
     } else {
         Ok(None)
     }

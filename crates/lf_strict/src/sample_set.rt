@@ -6,9 +6,10 @@ ghost use Rattle.lf_witness.specs.Strict.{AreSame, AreSelected, IsSet};
 ghost use Rattle.lf_witness.specs.StrictRuns.{InOrder};
 ghost use Rattle.lf_strict.specs.views.Selected.{has_name};
 
+use crate::lending::Samples;
 use crate::selecting::{has_name, passing_each};
 use lf_ast::{LabelSet, Matcher};
-use lf_base::{Memory, Seq, Text};
+use lf_base::{Memory, Text};
 use lf_classes::Universe;
 use std::alloc::Global;
 use std::collections::BTreeSet;
@@ -63,17 +64,17 @@ impl SampleSet {
     }
 
     /// The samples that have the name and pass the matchers, in ascending order.
-    pub fn select(
+    pub fn select<'a>(
         &self,
         alloc: Global,
         universe: Option<&Universe>,
         name: &Option<Text>,
         matchers: &[Matcher],
-    ) -> Result<Seq<LabelSet>, Memory>
+    ) -> Result<Samples<'a>, Memory>
         ensures { IfOk result (λ set. InOrder (IsSet (AreSelected self.now name.now matchers.now)) (Some set)) }
     {
         let kept = self.named(alloc, name)?;
-        Ok(Seq::from_vec(passing_each(alloc, universe, kept, matchers)?))
+        passing_each(alloc, universe, Samples::from_vec(kept), matchers)
     }
 
     /// The samples of this name, or all of them.

@@ -4,7 +4,7 @@ ghost use Rattle.lf_semantics.specs.Evaluation.{IsGrouped, LosesName};
 ghost use Rattle.lf_witness.specs.Strict.{IsCountedAsOne};
 
 use crate::becoming::Becoming;
-use crate::choosing::GroupLabels;
+use crate::choosing::{AllButName, GroupLabels};
 use lf_ast::{Grouping, LabelSet};
 use lf_base::{Memory, Text};
 use std::alloc::Global;
@@ -23,6 +23,10 @@ impl Becoming for Nameless {
         sample.set(&metric, &Text::of(alloc, "")?)?;
         Ok(sample)
     }
+
+    fn of_lent(&self, alloc: Global, sample: &LabelSet) -> Result<LabelSet, Memory> {
+        sample.kept(&AllButName)
+    }
 }
 
 /// A sample becomes that of its group.
@@ -37,6 +41,10 @@ impl<'a> Becoming for Grouped<'a> {
     ghost one = { λ how s t u a b. a ∙ sym b };
 
     fn of(&self, alloc: Global, sample: LabelSet) -> Result<LabelSet, Memory> {
+        self.of_lent(alloc, &sample)
+    }
+
+    fn of_lent(&self, alloc: Global, sample: &LabelSet) -> Result<LabelSet, Memory> {
         let grouping = self.grouping;
         sample.kept(&GroupLabels { grouping })
     }
@@ -55,6 +63,10 @@ impl<'a> Becoming for CountedAsOne<'a> {
     ghost one = { λ how s t u a b. a ∙ sym b };
 
     fn of(&self, alloc: Global, sample: LabelSet) -> Result<LabelSet, Memory> {
+        self.of_lent(alloc, &sample)
+    }
+
+    fn of_lent(&self, alloc: Global, sample: &LabelSet) -> Result<LabelSet, Memory> {
         let grouping = self.grouping;
         let mut group = sample.kept(&GroupLabels { grouping })?;
         group.set(self.label, &Text::of(alloc, "1")?)?;

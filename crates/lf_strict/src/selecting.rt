@@ -1,5 +1,5 @@
 //! The samples that a selector gives.
-ghost use Rattle.std.specs.Prelude.{◌≡◌, ◌++◌, ◌&&◌, IfOk, IfSome, OnOk, Some};
+ghost use Rattle.std.specs.Prelude.{◌≡◌, ◌++◌, ◌&&◌, IfOk, IfSome, Some};
 ghost use Rattle.std.specs.List.{filter};
 ghost use Rattle.std.specs.Str.{bytes_eq};
 ghost use Rattle.lf_pattern.specs.Matching.{is_read, matches};
@@ -9,8 +9,9 @@ ghost use Rattle.lf_witness.specs.Strict.{AreSelected, IsSet};
 ghost use Rattle.lf_witness.specs.StrictRuns.{InOrder};
 ghost use Rattle.lf_strict.specs.views.Selected.{as_wanted, has_name, passes_by, passing};
 
+use crate::lending::{Held, Samples};
 use lf_ast::{LabelSet, MatchOp, Matcher};
-use lf_base::{Memory, Seq, Text};
+use lf_base::{Memory, Text};
 use lf_candidates::known_pass;
 use lf_classes::Universe;
 use lf_nodes::takes_pattern;
@@ -18,28 +19,36 @@ use lf_pattern::{Pattern, PatternError};
 use std::alloc::Global;
 
 /// The samples that have the name and pass the matchers, in ascending order.
-pub fn select(
+pub fn select<'a>(
     alloc: Global,
     universe: Option<&Universe>,
-    stored: &[LabelSet],
+    stored: Samples<'a>,
     name: &Option<Text>,
     matchers: &[Matcher],
-) -> Result<Seq<LabelSet>, Memory>
-    requires { IsAscending stored.now }
-    ensures { IfOk result (λ set. InOrder (IsSet (AreSelected stored.now name.now matchers.now)) (Some set)) }
+) -> Result<Samples<'a>, Memory>
+    requires { IsAscending stored }
+    ensures { IfOk result (λ set. InOrder (IsSet (AreSelected stored.entry name.now matchers.now)) (Some set)) }
 {
-    let kept = named(alloc, stored, name)?;
-    Ok(Seq::from_vec(passing_each(alloc, universe, kept, matchers)?))
+    let kept = only_named(stored.into_vec(alloc)?, name);
+    passing_each(alloc, universe, Samples::from_vec(kept), matchers)
+}
+
+/// The samples of this name, or all of them. The others are taken out.
+fn only_named(mut samples: Vec<LabelSet>, name: &Option<Text>) -> Vec<LabelSet>
+    ensures { result.items ≡ filter (has_name name.now) samples.items }
+{
+    samples.retain(|sample| has_name(name, sample));
+    samples
 }
 
 /// Those of the samples that pass each matcher.
-pub fn passing_each(
+pub fn passing_each<'a>(
     alloc: Global,
     universe: Option<&Universe>,
-    mut kept: Vec<LabelSet>,
+    mut kept: Samples<'a>,
     matchers: &[Matcher],
-) -> Result<Vec<LabelSet>, Memory>
-    ensures { IfOk result (λ passed. passed.items ≡ passing matchers.now kept.items) }
+) -> Result<Samples<'a>, Memory>
+    ensures { IfOk result (λ passed. passed ≡ passing matchers.now kept.entry) }
 {
     for matcher in matchers {
         kept = passing(alloc, universe, matcher, kept)?;
@@ -47,8 +56,49 @@ pub fn passing_each(
     Ok(kept)
 }
 
+/// The samples that pass a matcher. One that is lent stays where it is, unless a pattern is read for it.
+fn passing<'a>(
+    alloc: Global,
+    universe: Option<&Universe>,
+    matcher: &Matcher,
+    samples: Samples<'a>,
+) -> Result<Samples<'a>, Memory>
+    ensures { IfOk result (λ kept. kept ≡ filter (passes_by matcher.now) samples.entry) }
+{
+    if let Held::Lent { sample } = &samples.held {
+        match known_to_pass(universe, matcher, sample) {
+            Some(true) => return Ok(samples),
+            Some(false) => return Ok(Samples::new(alloc)),
+            None => {}
+        }
+    }
+    let kept = passing_listed(alloc, universe, matcher, samples.into_vec(alloc)?)?;
+    Ok(Samples::from_vec(kept))
+}
+
+/// Whether a sample passes a matcher, where it is known without reading a pattern.
+fn known_to_pass(universe: Option<&Universe>, matcher: &Matcher, sample: &LabelSet) -> Option<bool>
+    ensures { IfSome result (λ told. told ≡ passes_by matcher.now sample.now) }
+{
+    match matcher.op {
+        MatchOp::Equal => Some(is_compared(matcher, sample, true)),
+        MatchOp::NotEqual => Some(is_compared(matcher, sample, false)),
+        _ => known_by(universe, matcher, sample),
+    }
+}
+
+/// Whether a sample passes a matcher, if there is a universe that knows it of its text.
+fn known_by(universe: Option<&Universe>, matcher: &Matcher, sample: &LabelSet) -> Option<bool>
+    ensures { IfSome result (λ told. told ≡ passes_by matcher.now sample.now) }
+{
+    match universe {
+        Some(universe) => known_pass(universe, matcher, text_of(sample, matcher.label.as_str())),
+        None => None,
+    }
+}
+
 /// The samples that pass a matcher. Where a universe knows of the text of each whether it does, no pattern is read.
-fn passing(
+fn passing_listed(
     alloc: Global,
     universe: Option<&Universe>,
     matcher: &Matcher,
@@ -120,32 +170,31 @@ fn passing_by_operator(
 }
 
 /// The samples of this name, or all of them.
-pub fn named(
+pub fn named<'a>(
     alloc: Global,
-    samples: &[LabelSet],
+    samples: &'a [LabelSet],
     name: &Option<Text>,
-) -> Result<Vec<LabelSet>, Memory>
-    ensures { IfOk result (λ kept. kept.items ≡ filter (has_name name.now) samples.now) }
+) -> Result<Samples<'a>, Memory>
+    ensures { IfOk result (λ kept. kept ≡ filter (has_name name.now) samples.entry.now) }
 {
-    let mut kept = Vec::new(alloc);
-    push_named(&mut kept, samples, name)?;
-    Ok(kept)
+    with_named(alloc, Samples::new(alloc), samples, name)
 }
 
-/// Appends the samples of this name, or all of them. It may have appended some where it fails.
-pub fn push_named(
-    kept: &mut Vec<LabelSet>,
-    samples: &[LabelSet],
+/// Some samples, and behind them those of this name, or all of them.
+pub fn with_named<'a>(
+    alloc: Global,
+    mut kept: Samples<'a>,
+    samples: &'a [LabelSet],
     name: &Option<Text>,
-) -> Result<(), Memory>
-    ensures { OnOk result (kept.new.items ≡ kept.old.items ++ filter (has_name name.now) samples.now) }
+) -> Result<Samples<'a>, Memory>
+    ensures { IfOk result (λ all. all ≡ kept.entry ++ filter (has_name name.now) samples.entry.now) }
 {
     for sample in samples {
         if has_name(name, sample) {
-            kept.push(sample.copy()?)?;
+            kept = kept.and(alloc, sample)?;
         }
     }
-    Ok(())
+    Ok(kept)
 }
 
 /// Whether a sample has this name, if there is one.

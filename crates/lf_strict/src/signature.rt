@@ -12,8 +12,9 @@ ghost use Rattle.lf_strict.specs.views.Signed.{ArePartnered, IsSignature, TellsA
 
 use crate::apart::{apart, together};
 use crate::choosing::SignatureLabels;
+use crate::lending::Samples;
 use lf_ast::{LabelSet, Matching};
-use lf_base::{Memory, Seq};
+use lf_base::Memory;
 use std::alloc::Global;
 
 /// The signature of each sample.
@@ -40,11 +41,7 @@ fn signature(matching: &Matching, sample: &LabelSet) -> Result<LabelSet, Memory>
 }
 
 /// Whether no two of the samples have equal signatures.
-pub fn are_apart(
-    alloc: Global,
-    matching: &Matching,
-    samples: &Seq<LabelSet>,
-) -> Result<bool, Memory>
+pub fn are_apart(alloc: Global, matching: &Matching, samples: &Samples<'_>) -> Result<bool, Memory>
     requires { IsAscending samples.now }
     ensures { IfOk result (TellsApart matching.now samples.now) }
 {
@@ -56,13 +53,13 @@ pub fn are_apart(
 }
 
 /// The left samples that have a partner on the right, or those that have none where that is wanted, in ascending order.
-pub fn by_partner(
+pub fn by_partner<'a>(
     alloc: Global,
     matching: &Matching,
-    left: &Seq<LabelSet>,
-    right: &Seq<LabelSet>,
+    left: &Samples<'_>,
+    right: &Samples<'_>,
     wanted: bool,
-) -> Result<Seq<LabelSet>, Memory>
+) -> Result<Samples<'a>, Memory>
     requires { IsAscending left.now }
     ensures { IfOk result (λ set. InOrder (IsSet (ArePartnered wanted matching.now left.now right.now)) (Some set)) }
 {
@@ -77,12 +74,12 @@ pub fn by_partner(
 }
 
 /// The left samples, and the right ones that have no partner on the left, in ascending order.
-pub fn either(
+pub fn either<'a>(
     alloc: Global,
     matching: &Matching,
-    left: &Seq<LabelSet>,
-    right: &Seq<LabelSet>,
-) -> Result<Seq<LabelSet>, Memory>
+    left: &Samples<'_>,
+    right: &Samples<'_>,
+) -> Result<Samples<'a>, Memory>
     requires { IsAscending right.now }
     ensures { IfOk result (λ set. InOrder (IsSet (AreEither matching.now left.now right.now)) (Some set)) }
 {
@@ -104,13 +101,13 @@ pub fn push_each(all: &mut Vec<LabelSet>, samples: &[LabelSet]) -> Result<(), Me
 }
 
 /// The samples whose signature is one of these, or those whose signature isn't.
-fn with_signature(
+fn with_signature<'a>(
     alloc: Global,
     matching: &Matching,
     samples: &[LabelSet],
     signatures: &[LabelSet],
     wanted: bool,
-) -> Result<Seq<LabelSet>, Memory>
+) -> Result<Samples<'a>, Memory>
     requires { IsAscending signatures.now }
     ensures kept { IfOk result (λ kept. kept ≡ filter (is_signed matching.now signatures.now wanted) samples.now) }
     ensures texts { IfOk result (λ kept. (s : Labels) → Contains samples.now s → HasTexts s) }
@@ -121,7 +118,7 @@ fn with_signature(
             kept.push(sample.copy()?)?;
         }
     }
-    Ok(Seq::from_vec(kept))
+    Ok(Samples::from_vec(kept))
 }
 
 /// Whether the signature of a sample is one of these, or isn't where that is wanted.

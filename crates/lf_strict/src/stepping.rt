@@ -7,10 +7,11 @@ ghost use Rattle.lf_strict.specs.views.Running.{IsStep};
 
 use crate::becoming::made_apart;
 use crate::evaluating::evaluated;
+use crate::lending::Samples;
 use crate::store::Store;
 use crate::storing::Stored;
 use lf_ast::{LabelSet, Rule};
-use lf_base::{Memory, Seq};
+use lf_base::Memory;
 use lf_nodes::is_rule_type;
 use std::alloc::Global;
 
@@ -28,7 +29,7 @@ pub fn step(alloc: Global, store: &mut Store<'_>, rule: &Rule) -> Result<bool, M
 }
 
 /// What a step of a rule adds to the stored samples, in ascending order.
-fn added(alloc: Global, store: &Store, rule: &Rule) -> Result<Option<Seq<LabelSet>>, Memory>
+fn added<'a>(alloc: Global, store: &Store, rule: &Rule) -> Result<Option<Samples<'a>>, Memory>
     ensures { IfOk result (InOrder (StepAdds store.now (rule_tree rule.now))) }
 {
     match rule_answer(alloc, store, rule)? {
@@ -38,23 +39,27 @@ fn added(alloc: Global, store: &Store, rule: &Rule) -> Result<Option<Seq<LabelSe
 }
 
 /// The samples that a rule stores of what it gives, in ascending order: none of an alert's.
-fn stored(
+fn stored<'a>(
     alloc: Global,
     rule: &Rule,
-    samples: Seq<LabelSet>,
-) -> Result<Option<Seq<LabelSet>>, Memory>
+    samples: Samples<'_>,
+) -> Result<Option<Samples<'a>>, Memory>
     requires { IsAscending samples }
-    ensures { IfOk result (InOrder (StoredOf (rule_tree rule.now) rule.now.alert samples)) }
+    ensures { IfOk result (InOrder (StoredOf (rule_tree rule.now) rule.now.alert samples.entry)) }
 {
     if rule.alert {
-        Ok(Some(Seq::new(alloc)))
+        Ok(Some(Samples::new(alloc)))
     } else {
         made_apart(alloc, &Stored { rule }, samples)
     }
 }
 
 /// What a rule gives: that of a string or a range vector is None.
-fn rule_answer(alloc: Global, store: &Store, rule: &Rule) -> Result<Option<Seq<LabelSet>>, Memory>
+fn rule_answer<'a>(
+    alloc: Global,
+    store: &'a Store<'a>,
+    rule: &Rule,
+) -> Result<Option<Samples<'a>>, Memory>
     ensures { IfOk result (IsRuleAnswer store.now (rule_tree rule.now)) }
 {
     let evaluated = evaluated(alloc, store, &rule.expr)?;

@@ -9,8 +9,9 @@ ghost use Rattle.lf_witness.specs.Strict.{AreSame, AreSelected, IsSet};
 ghost use Rattle.lf_witness.specs.StrictRuns.{InOrder};
 
 use crate::apart::together;
+use crate::lending::{Held, Samples};
 use crate::named_samples::NamedSamples;
-use crate::selecting::{named, passing_each, push_named, select};
+use crate::selecting::{named, passing_each, select, with_named};
 use crate::signature::push_each;
 use lf_ast::{LabelSet, Matcher, selected_name};
 use lf_base::{Memory, Seq, Text};
@@ -81,8 +82,19 @@ impl<'a> Store<'a> {
         Ok(())
     }
 
-    /// Puts samples among the others, of which equal ones count once, without copying them. It may have put some where it fails.
-    pub fn take(&mut self, alloc: Global, mut samples: Seq<LabelSet>) -> Result<(), Memory>
+    /// Puts samples among the others, of which equal ones count once, without copying them, but for one that is lent. It may have put some where it fails.
+    pub fn take(&mut self, alloc: Global, samples: Samples<'_>) -> Result<(), Memory>
+        ensures { OnOk result (AreSame (self.old ++ samples.entry) self.new) }
+    {
+        match samples.held {
+            Held::Lent { sample } => self.put(alloc, sample.copy()?),
+            Held::Alone { sample } => self.put(alloc, sample),
+            Held::Listed { samples } => self.take_listed(alloc, Seq::from_vec(samples)),
+        }
+    }
+
+    /// Puts the samples of a list among the others. It may have put some where it fails.
+    fn take_listed(&mut self, alloc: Global, mut samples: Seq<LabelSet>) -> Result<(), Memory>
         ensures { OnOk result (AreSame (self.old ++ samples) self.new) }
     {
         while let Some(sample) = samples.pop() {
@@ -103,7 +115,7 @@ impl<'a> Store<'a> {
     }
 
     /// All samples, in ascending order.
-    pub fn in_order(&self, alloc: Global) -> Result<Seq<LabelSet>, Memory>
+    pub fn in_order<'b>(&self, alloc: Global) -> Result<Samples<'b>, Memory>
         ensures same { IfOk result (AreSame self.now) }
         ensures ascends { IfOk result IsAscending }
     {
@@ -120,14 +132,14 @@ impl<'a> Store<'a> {
         alloc: Global,
         name: &Option<Text>,
         matchers: &[Matcher],
-    ) -> Result<Seq<LabelSet>, Memory>
+    ) -> Result<Samples<'_>, Memory>
         ensures { IfOk result (λ set. InOrder (IsSet (AreSelected self.now name.now matchers.now)) (Some set)) }
     {
         match sought_name(name, matchers) {
             Some(sought) => self.select_named(alloc, sought, name, matchers),
             None => {
                 let all = self.in_order(alloc)?;
-                select(alloc, self.universe, all.as_slice(), name, matchers)
+                select(alloc, self.universe, all, name, matchers)
             }
         }
     }
@@ -139,19 +151,36 @@ impl<'a> Store<'a> {
         sought: &Text,
         name: &Option<Text>,
         matchers: &[Matcher],
-    ) -> Result<Seq<LabelSet>, Memory>
+    ) -> Result<Samples<'_>, Memory>
         requires { (s : Labels) → HasName name.now s → PassesEach matchers.now s → value_of s metric ≡ sought.now }
         ensures { IfOk result (λ set. InOrder (IsSet (AreSelected self.now name.now matchers.now)) (Some set)) }
     {
-        let mut kept = named(alloc, self.given, name)?;
-        push_named(&mut kept, self.few.as_slice(), name)?;
-        let mut found = passing_each(alloc, self.universe, kept, matchers)?;
+        let first = named(alloc, self.given, name)?;
+        let kept = with_named(alloc, first, self.few.as_slice(), name)?;
+        let found = passing_each(alloc, self.universe, kept, matchers)?;
         let others = self
             .others
             .select_named(alloc, self.universe, sought, name, matchers)?;
-        take_each(&mut found, others)?;
-        Ok(together(found))
+        joined(alloc, found, others)
     }
+}
+
+/// Samples and others, in ascending order, of which equal ones count once. One that is alone stays where it is.
+fn joined<'a>(
+    alloc: Global,
+    samples: Samples<'a>,
+    others: Samples<'_>,
+) -> Result<Samples<'a>, Memory>
+    ensures same { IfOk result (AreSame (samples.entry ++ others.entry)) }
+    ensures ascends { IfOk result IsAscending }
+{
+    if samples.len() < 2 && others.len() == 0 {
+        return Ok(samples);
+    }
+    let mut all = samples.into_vec(alloc)?;
+    let more = others.into_list(alloc)?;
+    take_each(&mut all, more)?;
+    Ok(together(all))
 }
 
 /// Puts samples behind others, the last one first, without copying them. It may have put some where it fails.

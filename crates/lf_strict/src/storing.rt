@@ -27,6 +27,10 @@ impl<'a> Becoming for Stored<'a> {
         set_labels(&mut sample, self.rule.labels.as_slice())?;
         Ok(sample)
     }
+
+    fn of_lent(&self, alloc: Global, sample: &LabelSet) -> Result<LabelSet, Memory> {
+        self.of(alloc, sample.copy()?)
+    }
 }
 
 /// Sets the labels of a rule, the first last. It may have set some where it fails.

@@ -18,8 +18,8 @@ returns-then-has_equal_neighbours c =
     repeated_moved c.args.made.items sorted c.sorted-made.ensures.permutation
     (two.1, twice_there sorted k two.1 two.2 one (ap (slice_get sorted) (sym (add-one k)) ∙ next) (told_same two.1 two.2 two.5))
 
-pub returns-else-has_equal_neighbours : goal.returns-else-has_equal_neighbours
-returns-else-has_equal_neighbours c =
+pub returns : goal.returns
+returns c =
     let sorted : List Labels = c.sorted-made.result.items in
     let others : (k : _) (s t : Labels) → slice_get sorted k ≡ Some s → slice_get sorted (k + 1) ≡ Some t → eq_by_cmp labels_cmp s t ≡ false = λ k s t a b. c.has_equal_neighbours.ensures.none c.if-has_equal_neighbours.false k s t
     (ap (λ (l : List Labels). slice_get l k) c.as_slice.ensures.value ∙ a) (ap (λ (l : List Labels). slice_get l (k + 1)) c.as_slice.ensures.value ∙ b) in

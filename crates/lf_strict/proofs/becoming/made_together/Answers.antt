@@ -1,5 +1,7 @@
-use Rattle.std.proofs.Common.{sym, ◌∙◌}
+use Rattle.std.proofs.Common.{List, sym, ◌∙◌, subst}
+use Rattle.std.specs.List.{AllZip}
 use Rattle.std.proofs.lemmas.Result.{IfOk-weaker}
+use Rattle.lf_ast.specs.Labels.{Labels}
 use Rattle.lf_strict.proofs.MadeApart.{made_together, only_together}
 use Rattle.lf_strict.proofs.becoming.made_together.Goals as goal
 
@@ -11,4 +13,5 @@ returns-then-len-eq1 g c =
 pub returns : goal.returns
 returns g c =
     let becomes = g.B.Becoming.becomes c.args.how.now in
-    made_together becomes c.args.samples c.in_ok-made.made.items c.together.result c.in_ok-made.ensures c.together.ensures.same c.together.ensures.ascends
+    let each = subst (λ (l : List Labels). AllZip becomes l c.in_ok-made.made.items) c.in_ok-listed.ensures c.in_ok-made.ensures in
+    made_together becomes c.args.samples c.in_ok-made.made.items c.together.result each c.together.ensures.same c.together.ensures.ascends

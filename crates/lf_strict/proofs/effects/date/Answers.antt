@@ -13,5 +13,5 @@ some_argument : {E : Type 0} (args : List Expr) (operand : Outcomes) (r : Result
 some_argument [] operand r h is = absurd (omega (arith, h))
 some_argument (x ∷ args) operand r h is = is
 
-pub returns-in-len1-up : goal.returns-in-len1-up
-returns-in-len1-up c = λ W e given. some_argument c.args.args.now (StrictlyEvaluates W e) c.operand_apart.result (omega (arith, c.in-len1-up.len_at_least)) (c.operand_apart.ensures W e given)
+pub returns : goal.returns
+returns c = λ W e given. some_argument c.args.args.now (StrictlyEvaluates W e) c.operand_apart.result (omega (arith, c.in-len1-up.len_at_least)) (c.operand_apart.ensures W e given)

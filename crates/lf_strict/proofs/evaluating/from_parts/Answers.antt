@@ -58,8 +58,8 @@ returns-in-Call-clause-answer c =
     (c.call.ensures.answer W (operand_tree W o (trees s.args)) answered) in
     subst (λ (e : Tree). IfOk c.call.result (λ made. IsStrictAnswer W e made.answer)) (sym is) (call_answer W o (function_named s.name) Ungrouped (trees s.args) c.call.result named given)
 
-pub returns-in-Aggregate-clause-answer : goal.returns-in-Aggregate-clause-answer
-returns-in-Aggregate-clause-answer c =
+pub returns-clause-answer : goal.returns-clause-answer
+returns-clause-answer c =
     let W = c.args.store.now in
     let s = c.in-Aggregate in
     let o = option_map signature_of c.args.function in

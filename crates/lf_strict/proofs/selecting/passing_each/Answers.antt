@@ -8,7 +8,7 @@ use Rattle.lf_strict.proofs.selecting.passing_each.Goals as goal
 
 pub loop-matcher-preserved : goal.loop-matcher-preserved
 loop-matcher-preserved c =
-    let W : List Labels = c.args.kept.items in
+    let W : List Labels = c.args.kept in
     c.in_ok-kept.ensures
     ∙ ap (filter (passes_by c.matcher-item.result)) c.loop-matcher.invariant
     ∙ sym (passing_more c.args.matchers.now c.loop-matcher.matcher-index c.matcher-item.result W c.loop-matcher-test.true c.matcher-item.is)
@@ -16,4 +16,4 @@ loop-matcher-preserved c =
 pub returns : goal.returns
 returns c =
     let ms = c.args.matchers.now in
-    c.loop-matcher.invariant ∙ ap (λ l. passing l c.args.kept.items) (take_all c.loop-matcher.matcher-index ms c.loop-matcher-test.false)
+    c.loop-matcher.invariant ∙ ap (λ l. passing l c.args.kept) (take_all c.loop-matcher.matcher-index ms c.loop-matcher-test.false)

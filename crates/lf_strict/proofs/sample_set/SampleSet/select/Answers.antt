@@ -1,4 +1,5 @@
 use Rattle.std.proofs.Common.{List, sym, ◌∙◌, ap, subst}
+use Rattle.std.proofs.lemmas.Result.{IfOk-weaker}
 use Rattle.lf_ast.specs.Labels.{Labels}
 use Rattle.lf_witness.specs.Ascending.{IsAscending}
 use Rattle.lf_witness.specs.Strict.{AreSelected}
@@ -11,5 +12,6 @@ returns c =
     let W : List Labels = c.args.self.now in
     let name = c.args.name.now in
     let ms = c.args.matchers.now in
-    let is = c.from_vec.ensures ∙ c.in_ok-passing_each.ensures ∙ ap (passing ms) c.in_ok-kept.ensures.kept in
-    subst (λ (l : List Labels). AreSelected W name ms l × IsAscending l) (sym is) (are_selected W name ms c.in_ok-kept.ensures.ascends)
+    IfOk-weaker c.passing_each.result _ _
+    (λ R is. subst (λ (l : List Labels). AreSelected W name ms l × IsAscending l) (sym (is ∙ ap (passing ms) (c.from_vec.ensures ∙ c.in_ok-kept.ensures.kept))) (are_selected W name ms c.in_ok-kept.ensures.ascends))
+    c.passing_each.ensures

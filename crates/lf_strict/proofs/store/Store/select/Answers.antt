@@ -1,13 +1,11 @@
-use Rattle.std.proofs.Common.{List, sym, subst}
+use Rattle.std.proofs.Common.{List}
 use Rattle.std.proofs.lemmas.Result.{IfOk-weaker}
 use Rattle.lf_ast.specs.Labels.{Labels}
-use Rattle.lf_witness.specs.Ascending.{IsAscending}
-use Rattle.lf_witness.specs.Strict.{AreSelected}
 use Rattle.lf_strict.proofs.StoredSamples.{selected_of}
 use Rattle.lf_strict.proofs.store.Store.select.Goals as goal
 
 pub select-requires : goal.select-requires
-select-requires c = subst IsAscending (sym c.as_slice.ensures) c.in_ok-all-in-None.ensures.ascends
+select-requires c = c.in_ok-all-in-None.ensures.ascends
 
 pub returns-in_ok-all-in-None : goal.returns-in_ok-all-in-None
 returns-in_ok-all-in-None c =
@@ -16,5 +14,5 @@ returns-in_ok-all-in-None c =
     let name = c.args.name.now in
     let ms = c.args.matchers.now in
     IfOk-weaker c.select.result _ _
-    (λ R is. (selected_of W V name ms R c.in_ok-all-in-None.ensures.same.1 (λ s d named each. c.in_ok-all-in-None.ensures.same.0 s d) (subst (λ (l : List Labels). AreSelected l name ms R) c.as_slice.ensures is.0), is.1))
+    (λ R is. (selected_of W V name ms R c.in_ok-all-in-None.ensures.same.1 (λ s d named each. c.in_ok-all-in-None.ensures.same.0 s d) is.0, is.1))
     c.select.ensures

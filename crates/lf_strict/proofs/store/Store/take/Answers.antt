@@ -1,23 +1,21 @@
-use Rattle.std.proofs.Common.{◌++◌, List, append-nil, ◌∙◌, ap, subst}
+use Rattle.std.proofs.Common.{◌++◌, ◌∷◌, [], Global, List, Vec, OnOk, sym, ap, ◌∙◌, subst}
 use Rattle.lf_ast.specs.Labels.{Labels}
+use Rattle.lf_ast.specs.declared.label_set.LabelSet.{LabelSet}
 use Rattle.lf_witness.specs.Strict.{AreSame}
-use Rattle.lf_witness.proofs.SameSets.{chained, same_itself}
-use Rattle.lf_strict.proofs.SampleSets.{taken_over}
+use Rattle.lf_strict.specs.views.Lending.{samples_held}
 use Rattle.lf_strict.proofs.store.Store.take.Goals as goal
 
-pub loop-sample-init : goal.loop-sample-init
-loop-sample-init c = same_itself (c.args.self.now ++ c.args.samples)
+pub returns-in_ok-copy-in-Lent : goal.returns-in_ok-copy-in-Lent
+returns-in_ok-copy-in-Lent c =
+    let is = ap (λ (s : Labels). s ∷ []) c.in_ok-copy-in-Lent.ensures ∙ sym (ap samples_held c.in-Lent.is) ∙ c.samples.view_is in
+    subst (λ (l : List Labels). OnOk c.put.result (AreSame (c.args.self.now ++ l) c.put.new.self)) is c.put.ensures
 
-pub loop-sample-preserved : goal.loop-sample-preserved
-loop-sample-preserved c =
-    let old : List Labels = c.loop-sample.self in
-    let samples : List Labels = c.loop-sample.samples in
-    let new : List Labels = c.put.new.self in
-    let front : List Labels = c.pop.new.self in
-    chained (c.args.self.now ++ c.args.samples) (old ++ samples) (new ++ front) c.loop-sample.invariant
-    (taken_over old new samples front c.in-Some.sample c.in-Some.ensures.some c.in_ok-put.ensures)
+pub returns-in-Alone : goal.returns-in-Alone
+returns-in-Alone c =
+    let is = ap (λ (s : Labels). s ∷ []) c.in-Alone.sample-is ∙ sym (ap samples_held c.in-Alone.is) ∙ c.samples.view_is in
+    subst (λ (l : List Labels). OnOk c.put-in-Alone.result (AreSame (c.args.self.now ++ l) c.put-in-Alone.new.self)) is c.put-in-Alone.ensures
 
-pub returns : goal.returns
-returns c =
-    let W : List Labels = c.loop-sample.self in
-    subst (AreSame (c.args.self.now ++ c.args.samples)) (ap (λ (l : List Labels). W ++ l) c.in_default.ensures.none.0 ∙ append-nil W) c.loop-sample.invariant
+pub returns-in-Listed : goal.returns-in-Listed
+returns-in-Listed c =
+    let is = c.from_vec.ensures ∙ ap (λ (v : Vec LabelSet Global). v.items) c.in-Listed.samples-is ∙ sym (ap samples_held c.in-Listed.is) ∙ c.samples.view_is in
+    subst (λ (l : List Labels). OnOk c.take_listed.result (AreSame (c.args.self.now ++ l) c.take_listed.new.self)) is c.take_listed.ensures
