@@ -30,15 +30,14 @@ pub fn absent<'a>(
                 return Ok(None);
             }
             let one = sample_of(alloc, sought.matchers)?;
-            where_empty(alloc, one, operand)
+            where_empty(one, operand)
         }
-        None => where_empty(alloc, LabelSet::new(alloc), operand),
+        None => where_empty(LabelSet::new(alloc), operand),
     }
 }
 
 /// The sample exactly where the operand has none.
 fn where_empty<'a>(
-    alloc: Global,
     one: LabelSet,
     operand: &Option<Samples<'_>>,
 ) -> Result<Option<Samples<'a>>, Memory>
@@ -47,7 +46,7 @@ fn where_empty<'a>(
     match operand {
         Some(samples) => {
             if samples.len() > 0 {
-                return Ok(Some(Samples::new(alloc)));
+                return Ok(Some(Samples::new()));
             }
             Ok(Some(Samples::alone(one)))
         }

@@ -72,12 +72,13 @@ fn only_made<'a, B: Becoming>(
     ensures { IfOk result (AllZip (B.becomes how.now) samples.entry) }
 {
     match samples.held {
+        Held::Nothing => Ok(Samples::new()),
         Held::Lent { sample } => Ok(Samples::alone(how.of_lent(alloc, sample)?)),
         Held::Alone { sample } => Ok(Samples::alone(how.of(alloc, sample)?)),
-        Held::Listed { samples } => {
-            let made = each_made(alloc, how, Seq::from_vec(samples))?;
-            Ok(Samples::from_vec(made))
-        }
+        Held::Listed { mut samples } => match samples.pop() {
+            Some(sample) => Ok(Samples::alone(how.of(alloc, sample)?)),
+            None => Ok(Samples::new()),
+        },
     }
 }
 

@@ -16,6 +16,8 @@ pub struct Samples<'a> {
 /// Where samples are.
 #[derive(Drop)]
 pub enum Held<'a> {
+    /// No sample.
+    Nothing,
     /// One that is stored.
     Lent { sample: &'a LabelSet },
     /// One that was made.
@@ -40,10 +42,12 @@ impl<'a> Model for Samples<'a> {
 
 impl<'a> Samples<'a> {
     /// No sample.
-    pub fn new(alloc: Global) -> Samples<'a>
+    pub fn new() -> Samples<'a>
         ensures { result ≡ [] }
     {
-        Samples::from_vec(Vec::new(alloc))
+        Samples {
+            held: Held::Nothing,
+        }
     }
 
     /// A stored sample, which isn't copied.
@@ -78,6 +82,7 @@ impl<'a> Samples<'a> {
         ensures { result.now ≡ self.now }
     {
         match &self.held {
+            Held::Nothing => &[],
             Held::Lent { sample } => from_ref(*sample),
             Held::Alone { sample } => from_ref(sample),
             Held::Listed { samples } => samples.as_slice(),
@@ -116,6 +121,7 @@ impl<'a> Samples<'a> {
         ensures { IfOk result (λ all. all.items ≡ self.entry) }
     {
         match self.held {
+            Held::Nothing => Ok(Vec::new(alloc)),
             Held::Lent { sample } => only_one(alloc, sample.copy()?),
             Held::Alone { sample } => only_one(alloc, sample),
             Held::Listed { samples } => Ok(samples),

@@ -88,7 +88,7 @@ impl NamedSamples {
         let _count = self.by_name.len();
         match self.by_name.get(sought.as_str()) {
             Some(samples) => samples.select(alloc, universe, name, matchers),
-            None => Ok(Samples::new(alloc)),
+            None => Ok(Samples::new()),
         }
     }
 }

@@ -68,7 +68,7 @@ fn passing<'a>(
     if let Held::Lent { sample } = &samples.held {
         match known_to_pass(universe, matcher, sample) {
             Some(true) => return Ok(samples),
-            Some(false) => return Ok(Samples::new(alloc)),
+            Some(false) => return Ok(Samples::new()),
             None => {}
         }
     }
@@ -177,7 +177,7 @@ pub fn named<'a>(
 ) -> Result<Samples<'a>, Memory>
     ensures { IfOk result (λ kept. kept ≡ filter (has_name name.now) samples.entry.now) }
 {
-    with_named(alloc, Samples::new(alloc), samples, name)
+    with_named(alloc, Samples::new(), samples, name)
 }
 
 /// Some samples, and behind them those of this name, or all of them.

@@ -48,7 +48,7 @@ fn stored<'a>(
     ensures { IfOk result (InOrder (StoredOf (rule_tree rule.now) rule.now.alert samples.entry)) }
 {
     if rule.alert {
-        Ok(Some(Samples::new(alloc)))
+        Ok(Some(Samples::new()))
     } else {
         made_apart(alloc, &Stored { rule }, samples)
     }

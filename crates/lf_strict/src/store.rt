@@ -87,6 +87,7 @@ impl<'a> Store<'a> {
         ensures { OnOk result (AreSame (self.old ++ samples.entry) self.new) }
     {
         match samples.held {
+            Held::Nothing => Ok(()),
             Held::Lent { sample } => self.put(alloc, sample.copy()?),
             Held::Alone { sample } => self.put(alloc, sample),
             Held::Listed { samples } => self.take_listed(alloc, Seq::from_vec(samples)),
