@@ -10,11 +10,21 @@ use std::alloc::Global;
 pub(crate) fn with_words(before: u128, words: &[u64]) -> Result<u128, Memory>
     ensures { IfOk result (λ all. all ≡ before + sum words.now) }
 {
-    let mut all = before;
-    for word in words {
-        all = with_word(all, *word)?;
+    match before.checked_add(sum_of(words)) {
+        Some(all) => Ok(all),
+        None => Err(Memory),
     }
-    Ok(all)
+}
+
+/// The sum of words, which always fits: there are fewer words than one of them has values.
+fn sum_of(words: &[u64]) -> u128
+    ensures { result ≡ sum words.now }
+{
+    let mut all: u128 = 0;
+    for word in words {
+        all += u128::from(*word);
+    }
+    all
 }
 
 /// A sum with a word added to it. Want of memory where it doesn't fit.
@@ -36,7 +46,7 @@ pub(crate) fn row_sums(alloc: Global, words: &[u64], width: u32) -> Result<Seq<u
     let mut sums = Seq::new(alloc);
     for k in 0..words.len() / wide {
         let at = k * wide;
-        sums.push(with_words(0, &words[at..at + wide])?)?;
+        sums.push(sum_of(&words[at..at + wide]))?;
     }
     Ok(sums)
 }
