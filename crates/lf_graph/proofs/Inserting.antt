@@ -74,6 +74,9 @@ adds_then a b x y z g h =
     gains_as (λ (l : List ℕ). l) (λ k. Contains a k ⊎ Contains b k) (Contains (a ++ b)) x z (gains_both (λ (l : List ℕ). l) (Contains a) (Contains b) x y z g h)
     (λ k s. elim s [ inl c ↦ Contains-append_left a b k c | inr c ↦ Contains-append_right a b k c ]) (Contains-append_cases a b)
 
+pub adds_behind : (xs added : List ℕ) → Adds added xs (xs ++ added)
+adds_behind xs added = record { kept = Contains-append_left xs added; all = Contains-append_right xs added; only = Contains-append_cases xs added }
+
 -- the numbers of one more element
 pub adds_more : {X : Type 0} (f : X → List ℕ) (xs : List X) (k : ℕ) (d x : X) (a b c : List ℕ) → k < length xs → x ≡ get_or xs k d → Adds (flat_map f (take k xs)) a b → Adds (f x) b c
     → Adds (flat_map f (take (k + 1) xs)) a c

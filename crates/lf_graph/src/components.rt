@@ -8,6 +8,7 @@ ghost use Rattle.lf_graph.specs.Paths.{IsGraph, IsOnCircle, IsReached};
 
 use crate::buckets::Buckets;
 use crate::numbering::number_all;
+use crate::ordered::in_order;
 use lf_base::{Memory, Seq};
 use std::alloc::Global;
 use std::collections::BTreeSet;
@@ -89,14 +90,13 @@ impl Components {
         ensures members { IfOk result (λ found. (edges : List (List ℕ)) → AreComponents edges self.now → (v : ℕ) → Contains found v ↔ IsReached edges start.now v) }
         ensures ascending { IfOk result AreAscending }
     {
-        let mut found = BTreeSet::new(alloc);
+        let mut found = Vec::new(alloc);
         let mut due = self.components_of(alloc, start)?;
         while let Some(number) = due.pop_last() {
             add_all(&mut found, self.members.at(number))?;
             add_below(&mut due, &self.nexts[number], number)?;
         }
-        let found: Vec<usize> = found.into_iter().collect(alloc)?;
-        Ok(Seq::from_vec(found))
+        in_order(alloc, found)
     }
 
     /// The components of nodes.
@@ -171,12 +171,10 @@ fn add_numbers(
 }
 
 /// Adds nodes.
-fn add_all(found: &mut BTreeSet<usize>, nodes: &[usize]) -> Result<(), Memory>
-    ensures { OnOk result (Adds nodes.now found.old.keys found.new.keys) }
+fn add_all(found: &mut Vec<usize>, nodes: &[usize]) -> Result<(), Memory>
+    ensures { OnOk result (Adds nodes.now found.old.items found.new.items) }
 {
-    for node in nodes {
-        let _ = found.insert(*node)?;
-    }
+    found.extend_from_slice(nodes)?;
     Ok(())
 }
 

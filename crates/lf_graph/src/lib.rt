@@ -5,6 +5,7 @@ mod buckets;
 mod components;
 mod counting;
 mod numbering;
+mod ordered;
 mod search;
 
 pub use buckets::Buckets;

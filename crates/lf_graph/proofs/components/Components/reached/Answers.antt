@@ -1,8 +1,8 @@
-use Rattle.std.proofs.Common.{◌≡◌, ◌↔◌, ◌<◌, ℕ, List, [], BTreeSet, get_or, length, map, sym, ◌∙◌, ap, subst, arith, rules}
+use Rattle.std.proofs.Common.{◌≡◌, ◌↔◌, ℕ, List, [], BTreeSet, get_or, length, map, sym, ◌∙◌, ap, subst, arith, rules}
 use Rattle.std.specs.List.{Contains}
 use Rattle.std.proofs.lemmas.List.{get_or-map, length-map, nil_from_length}
-use Rattle.std.proofs.lemmas.Map.Keys.{below_from_sorted}
-use Rattle.lf_graph.specs.Components.{Components}
+use Rattle.std.proofs.lemmas.Result.{IfOk-weaker}
+use Rattle.lf_graph.specs.Components.{AreComponents, Components}
 use Rattle.lf_graph.specs.views.Listing.{Adds, AddsBelow}
 use Rattle.lf_graph.specs.Paths.{IsReached}
 use Rattle.lf_graph.proofs.Reaching.{IsFoundOrDue, all_found, due_within, goes_on, lower, starts, starts_within, was_due}
@@ -14,7 +14,7 @@ loop-number-init c =
     let start : List ℕ = c.args.start.now in
     let due : List ℕ = c.in_ok-due.due.keys in (
       starts_within c.requires.graph.0 parts c.requires.graph.1 start due c.requires.start c.in_ok-due.ensures,
-      λ edges are. let P : List ℕ → Type 0 = λ l. IsFoundOrDue edges parts.numbers start l due in subst P (sym c.new-found.ensures.empty) (starts edges parts are start due c.requires.start c.in_ok-due.ensures),
+      λ edges are. let P : List ℕ → Type 0 = λ l. IsFoundOrDue edges parts.numbers start l due in subst P (sym c.new-found.ensures.items) (starts edges parts are start due c.requires.start c.in_ok-due.ensures),
     )
 
 pub index-requires : goal.index-requires
@@ -30,20 +30,17 @@ loop-number-smaller c =
     lower c.loop-number.due.keys c.pop_last.new.self.keys c.add_below.new.due.keys c.index.result.now.keys c.in-Some.number c.in-Some.ensures.removal c.in-Some.ensures.all_below c.in_ok-add_below.ensures
 
 pub returns-clause-members : goal.returns-clause-members
-returns-clause-members c edges are v =
+returns-clause-members c =
     let start : List ℕ = c.args.start.now in
     let due : List ℕ = c.loop-number.due.keys in
-    let found : List ℕ = c.loop-number.found.keys in
+    let found : List ℕ = c.loop-number.found.items in
     let none : length due ≡ 0 = search rules in
-    let same : c.from_vec.result ≡ found = search rules in
-    let P : List ℕ → Type 0 = λ l. Contains l v ↔ IsReached edges start v in
-    subst P (sym same) (all_found edges c.args.self.now.numbers start found due (nil_from_length due none) (c.loop-number.invariant.1 edges are) v)
-
-pub returns-clause-ascending : goal.returns-clause-ascending
-returns-clause-ascending c =
-    let P : List ℕ → Type 0 = λ found. (k l : ℕ) → k < l → l < length found → get_or found k 0 < get_or found l 0 in
-    let same : c.from_vec.result ≡ c.loop-number.found.keys = search rules in
-    subst P (sym same) (λ k l h b. below_from_sorted c.loop-number.found.keys k l 0 c.into_iter.ensures.into_iter_gives.4 h b)
+    IfOk-weaker c.in_order.result (λ sorted. (v : ℕ) → Contains sorted v ↔ Contains found v)
+    (λ sorted. (edges : List (List ℕ)) → AreComponents edges c.args.self.now → (v : ℕ) → Contains sorted v ↔ IsReached edges start v)
+    (λ sorted same edges are v.
+    let all = all_found edges c.args.self.now.numbers start found due (nil_from_length due none) (c.loop-number.invariant.1 edges are) v in
+    (λ h. all.0 ((same v).0 h), λ h. (same v).1 (all.1 h)))
+    c.in_order.ensures.same
 
 pub loop-number-preserved : goal.loop-number-preserved
 loop-number-preserved c =
@@ -53,8 +50,8 @@ loop-number-preserved c =
     let due : List ℕ = c.loop-number.due.keys in
     let rest : List ℕ = c.pop_last.new.self.keys in
     let later : List ℕ = c.add_below.new.due.keys in
-    let found : List ℕ = c.loop-number.found.keys in
-    let more : List ℕ = c.add_all.new.found.keys in
+    let found : List ℕ = c.loop-number.found.items in
+    let more : List ℕ = c.add_all.new.found.items in
     let nexts : List (BTreeSet ℕ) = c.self.inside.nexts.items in
     let set : BTreeSet ℕ = c.index.result.now in
     let top = c.loop-number.invariant.0 k (was_due due rest k c.in-Some.ensures.removal) in

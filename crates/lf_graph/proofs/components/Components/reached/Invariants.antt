@@ -8,7 +8,7 @@ use Rattle.lf_graph.proofs.components.Components.reached.Given as goal
 abbrev pub invariant-loop-number : goal.invariant-loop-number
 invariant-loop-number l =
     ((k : ℕ) → Contains l.due.keys k → k < length l.self.members)
-    × ((edges : List (List ℕ)) → AreComponents edges l.self → IsFoundOrDue edges l.self.numbers l.start l.found.keys l.due.keys)
+    × ((edges : List (List ℕ)) → AreComponents edges l.self → IsFoundOrDue edges l.self.numbers l.start l.found.items l.due.keys)
 
 abbrev pub decreases-loop-number : goal.decreases-loop-number
 decreases-loop-number l = height l.due.keys

@@ -1,0 +1,16 @@
+use Rattle.std.proofs.Common.{ℕ, List, [], get_or, refl, subst}
+use Rattle.std.proofs.lemmas.List.{take_all}
+use Rattle.lf_graph.specs.views.Listing.{Adds}
+use Rattle.lf_graph.proofs.Inserting.{adds_next, adds_one}
+use Rattle.lf_graph.proofs.ordered.set_of.Goals as goal
+
+pub loop-number-preserved : goal.loop-number-preserved
+loop-number-preserved c =
+    let numbers : List ℕ = c.args.numbers.now in
+    let i : ℕ = c.loop-number.number-index in
+    adds_next numbers i (get_or numbers i 0) [] c.loop-number.set.keys c.insert.new.self.keys c.loop-number-test.true refl c.loop-number.invariant (adds_one c.loop-number.set.keys c.insert.new.self.keys (get_or numbers i 0) c.in_ok-insert.ensures.keys)
+
+pub returns : goal.returns
+returns c =
+    let A : List ℕ → Type 0 = λ l. Adds l [] c.loop-number.set.keys in
+    subst A (take_all c.loop-number.number-index c.args.numbers.now c.loop-number-test.false) c.loop-number.invariant
