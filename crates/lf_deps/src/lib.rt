@@ -14,7 +14,7 @@ mod selecting;
 mod sources;
 
 pub use name_graph::NameGraph;
-pub use numbers::{add_number, in_order};
+pub use numbers::{add_number, in_ascending_order, in_order};
 pub use ordering::{order, order_of, rule_number};
 pub use reading::{apart, apart_of, cyclic, cyclic_of, reach, reach_of};
 pub use selecting::{is_scalar_call, selectors};

@@ -1,26 +1,24 @@
 //! The rules that record names, and names in common.
-ghost use Rattle.std.specs.Prelude.{◌≡◌, ◌<◌, ◌↔◌, ℕ, true, false, IfOk, OnOk};
+ghost use Rattle.std.specs.Prelude.{◌≡◌, ◌<◌, ◌↔◌, ◌++◌, ℕ, true, false, IfOk, OnOk};
 ghost use Rattle.std.specs.List.{Contains};
 ghost use Rattle.lf_ast.specs.Labels.{Bytes};
-ghost use Rattle.lf_graph.specs.views.Listing.{Adds};
 ghost use Rattle.lf_deps.specs.views.Index.{makers_at};
 
-use crate::numbers::add_number;
+use crate::ordering::rule_number;
 use crate::sources::Sources;
-use lf_base::Memory;
+use lf_base::{Memory, Seq};
 use lf_classes::TextSet;
 use std::alloc::Global;
-use std::collections::BTreeSet;
 
-/// The numbers of the rules that record the name at one of these places. Want of memory where one of them doesn't fit a `u32`.
+/// The numbers of the rules that record the name at one of these places, in the order of the places. Want of memory where one of them doesn't fit a `u32`.
 pub(crate) fn makers_at_all(
     alloc: Global,
     sources: &Sources,
     places: &[usize],
-) -> Result<BTreeSet<u32>, Memory>
-    ensures { IfOk result (λ found. (k : ℕ) → Contains found.keys k ↔ ((place : ℕ) × Contains places.now place × Contains (makers_at sources.now place) k)) }
+) -> Result<Seq<u32>, Memory>
+    ensures { IfOk result (λ found. (k : ℕ) → Contains found k ↔ ((place : ℕ) × Contains places.now place × Contains (makers_at sources.now place) k)) }
 {
-    let mut found = BTreeSet::new(alloc);
+    let mut found = Seq::new(alloc);
     for place in places {
         add_all(&mut found, sources.makers_at(*place))?;
     }
@@ -28,11 +26,11 @@ pub(crate) fn makers_at_all(
 }
 
 /// Adds numbers.
-fn add_all(found: &mut BTreeSet<u32>, numbers: &[usize]) -> Result<(), Memory>
-    ensures { OnOk result (Adds numbers.now found.old.keys found.new.keys) }
+fn add_all(found: &mut Seq<u32>, numbers: &[usize]) -> Result<(), Memory>
+    ensures { OnOk result (found.new ≡ found.old ++ numbers.now) }
 {
     for number in numbers {
-        add_number(found, *number)?;
+        found.push(rule_number(*number)?)?;
     }
     Ok(())
 }

@@ -11,7 +11,7 @@ ghost use Rattle.lf_deps.specs.views.Sources.{IsSourcesOf};
 
 use crate::links::sources_of;
 use crate::name_graph::NameGraph;
-use crate::numbers::in_order;
+use crate::numbers::in_ascending_order;
 use crate::reaching::{have_none_common, makers_at_all};
 use crate::searching::names_read;
 use crate::selecting::selectors;
@@ -49,7 +49,7 @@ pub fn reach_of(
     let start = sources_of(alloc, sources.recorded(), sources.selected_by(i as usize))?;
     let reached = graph.components().reached(alloc, start.as_slice())?;
     let numbers = makers_at_all(alloc, sources, reached.as_slice())?;
-    in_order(alloc, numbers)
+    in_ascending_order(alloc, numbers)
 }
 
 /// Whether two expressions read no common name, directly or through the rules.

@@ -1,5 +1,5 @@
 -- The row of all scraped series, which is made once for many environments of the same names.
-use Rattle.std.proofs.Common.{◌≡◌, not, ◌&&◌, eqb, List, map, Option, Some, None, IfSome, sym, ◌∙◌, ap, subst}
+use Rattle.std.proofs.Common.{◌≡◌, not, ◌&&◌, eqb, List, Option, Some, None, IfSome, sym, ◌∙◌, ap, subst}
 use Rattle.std.specs.List.{list_any}
 use Rattle.std.specs.Option.{option_copied}
 use denote.Ref.{Bor}

@@ -11,7 +11,6 @@ mod joining;
 mod labels;
 mod matching;
 mod narrowing;
-mod numbers;
 mod operating;
 mod parts;
 mod patterns;

@@ -9,11 +9,10 @@ ghost use Rattle.lf_flow.specs.Reads.{AreEqualAt, ReadsNumber};
 ghost use Rattle.lf_flow.specs.views.Reading.{AreSelected, numbers_selected};
 
 use crate::Env;
-use crate::numbers::in_ascending_order;
 use lf_ast::Expr;
 use lf_base::{Memory, Seq, Text};
 use lf_classes::TextSet;
-use lf_deps::{rule_number, selectors};
+use lf_deps::{in_ascending_order, rule_number, selectors};
 use std::alloc::Global;
 
 /// The numbers of the recorded names that an expression reads by a selector of its own, in ascending order. A selector without a name reads all of them, and nothing within

@@ -1,6 +1,5 @@
-use Rattle.std.proofs.Common.{take}
-use Rattle.lf_graph.specs.views.Listing.{Adds}
+use Rattle.std.proofs.Common.{◌≡◌, ◌++◌, take}
 use Rattle.lf_deps.proofs.reaching.add_all.Given as goal
 
 abbrev pub invariant-loop-number : goal.invariant-loop-number
-invariant-loop-number l = Adds (take l.number-index l.numbers) l.fn.found.keys l.found.keys
+invariant-loop-number l = l.found ≡ l.fn.found ++ take l.number-index l.numbers

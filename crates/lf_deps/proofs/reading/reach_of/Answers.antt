@@ -25,7 +25,7 @@ reached-requires-clause-start c u there =
 pub returns-clause-members : goal.returns-clause-members
 returns-clause-members c rules is of here k =
     let s : Sources = c.args.sources.now in
-    let numbers : List ℕ = c.in_ok-numbers.numbers.keys in
+    let numbers : List ℕ = c.in_ok-numbers.numbers in
     let met : List ℕ = c.in_ok-reached.reached in
     let start : List ℕ = nodes s.names (selectors of.expr) in
     let begun : c.as_slice.result.now ≡ start =
@@ -37,4 +37,4 @@ returns-clause-members c rules is of here k =
     let all : B met = subst B c.as_slice-2.ensures c.in_ok-numbers.ensures in
     let Q : List ℕ → Type 0 = λ found. Contains found k ↔ ((r : RuleTree) × (slice_get rules k ≡ Some r) × Reaches rules of.expr r) in
     let reached : Q numbers = (λ m. reached_to rules s is s.names c.requires.graph.0 of.expr met led k ((all k).0 m), λ r. (all k).1 (reached_from rules s is s.names c.requires.graph.0 of.expr met led k r)) in
-    IfOk-weaker c.in_order.result (λ found. found ≡ numbers) Q (λ l e. subst Q (sym e) reached) c.in_order.ensures.members
+    IfOk-weaker c.in_ascending_order.result (λ found. (j : ℕ) → Contains found j ↔ Contains numbers j) Q (λ found same. (λ h. reached.0 ((same k).0 h), λ h. (same k).1 (reached.1 h))) c.in_ascending_order.ensures.same

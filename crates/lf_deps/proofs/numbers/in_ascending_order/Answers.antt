@@ -3,7 +3,7 @@ use Rattle.std.specs.List.{Contains}
 use Rattle.lf_laws.specs.Ascending.{AreAscending}
 use Rattle.lf_laws.proofs.Members.{none_in}
 use Rattle.lf_graph.specs.views.Listing.{Adds}
-use Rattle.lf_flow.proofs.numbers.in_ascending_order.Goals as goal
+use Rattle.lf_deps.proofs.numbers.in_ascending_order.Goals as goal
 
 pub returns-then-are_ascending-clause-ascending : goal.returns-then-are_ascending-clause-ascending
 returns-then-are_ascending-clause-ascending c = subst AreAscending c.as_slice.ensures (c.are_ascending.ensures c.if-are_ascending.true)

@@ -2,7 +2,7 @@ use Rattle.std.proofs.Common.{ℕ, List, [], get_or, refl, subst}
 use Rattle.std.proofs.lemmas.List.{take_all}
 use Rattle.lf_graph.specs.views.Listing.{Adds}
 use Rattle.lf_graph.proofs.Inserting.{adds_next}
-use Rattle.lf_flow.proofs.numbers.set_of.Goals as goal
+use Rattle.lf_deps.proofs.numbers.set_of.Goals as goal
 
 pub loop-number-preserved : goal.loop-number-preserved
 loop-number-preserved c =
