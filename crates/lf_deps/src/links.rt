@@ -46,7 +46,7 @@ fn waited_by_each(
 ) -> Result<Seq<Seq<usize>>, Memory>
     ensures { IfOk result (λ all. all ≡ map (λ found. flat_map (source_of names.now) found) selected.now) }
 {
-    let mut all = Seq::new(alloc);
+    let mut all = Seq::with_capacity(alloc, selected.len())?;
     for found in selected {
         all.push(sources_of(alloc, names, found.as_slice())?)?;
     }
@@ -109,7 +109,7 @@ fn recorded_by_each(
 ) -> Result<Seq<Seq<usize>>, Memory>
     ensures { IfOk result (λ all. all ≡ map (λ r. recorded_at names.now (rule_tree r)) rules.now) }
 {
-    let mut all = Seq::new(alloc);
+    let mut all = Seq::with_capacity(alloc, rules.len())?;
     for k in 0..rules.len() {
         all.push(recorded_by(alloc, names, rules.get(k))?)?;
     }

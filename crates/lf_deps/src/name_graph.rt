@@ -84,7 +84,7 @@ fn edges_of(alloc: Global, sources: &Sources, names: &TextSet) -> Result<Seq<Seq
     requires { IsIndex sources.now }
     ensures { IfOk result (λ edges. edges ≡ edges_of names.now sources.now) }
 {
-    let mut edges = Seq::new(alloc);
+    let mut edges = Seq::with_capacity(alloc, names.len() + 1)?;
     for place in 0..names.len() {
         edges.push(nodes_by(alloc, sources, names, sources.makers_at(place))?)?;
     }

@@ -30,7 +30,7 @@ pub fn order_of(alloc: Global, sources: &Sources, rules: &Seq<Rule>) -> Result<S
 {
     let links = Links::of(alloc, sources, rules)?;
     let mut queue = Queue::of(alloc, &links)?;
-    let mut order = Seq::new(alloc);
+    let mut order = Seq::with_capacity(alloc, rules.len())?;
     for _place in 0..rules.len() {
         let next = queue.next(&links)?;
         order.push(rule_number(next)?)?;

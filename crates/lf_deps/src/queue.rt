@@ -214,7 +214,7 @@ fn first_left(taken: &[bool], from: usize) -> usize
 pub(crate) fn numbers(alloc: Global, count: usize) -> Result<Seq<usize>, Memory>
     ensures { IfOk result (λ numbers. numbers ≡ range_with_len 0 count) }
 {
-    let mut numbers = Seq::new(alloc);
+    let mut numbers = Seq::with_capacity(alloc, count)?;
     for k in 0..count {
         numbers.push(k)?;
     }

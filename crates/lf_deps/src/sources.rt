@@ -37,8 +37,9 @@ impl Sources {
     pub fn of(alloc: Global, rules: &Seq<Rule>) -> Result<Sources, Memory>
         ensures { IfOk result (IsSourcesOf (rule_trees rules.now)) }
     {
+        let selected = Vec::with_capacity(alloc, rules.len())?;
         let mut sources = Sources {
-            selected: Vec::new(alloc),
+            selected,
             names: TextSet::new(alloc),
             makers: Buckets::new(alloc),
         };

@@ -25,7 +25,7 @@ impl Buckets {
     pub fn empty(alloc: Global, count: usize) -> Result<Buckets, Memory>
         ensures { IfOk result (λ buckets. buckets ≡ replicate count []) }
     {
-        let mut lists = Vec::new(alloc);
+        let mut lists = Vec::with_capacity(alloc, count)?;
         for _k in 0..count {
             lists.push(Seq::new(alloc))?;
         }

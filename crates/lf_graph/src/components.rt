@@ -148,7 +148,7 @@ fn list_nexts(
 fn empty_sets(alloc: Global, count: usize) -> Result<Vec<BTreeSet<usize>>, Memory>
     ensures { IfOk result (λ sets. map (λ t. t.keys) sets.items ≡ replicate count []) }
 {
-    let mut sets = Vec::new(alloc);
+    let mut sets = Vec::with_capacity(alloc, count)?;
     for _k in 0..count {
         sets.push(BTreeSet::new(alloc))?;
     }

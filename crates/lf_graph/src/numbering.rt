@@ -35,7 +35,7 @@ pub(crate) fn number_all(alloc: Global, edges: &Seq<Seq<usize>>) -> Result<Numbe
 fn numbers_in(alloc: Global, nodes: &[NodeState]) -> Result<Vec<usize>, Memory>
     ensures { IfOk result (λ numbers. numbers.items ≡ map number_in nodes.now) }
 {
-    let mut numbers = Vec::new(alloc);
+    let mut numbers = Vec::with_capacity(alloc, nodes.len())?;
     for node in nodes {
         numbers.push(number_in(node))?;
     }

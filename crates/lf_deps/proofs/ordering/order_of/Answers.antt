@@ -18,13 +18,13 @@ loop-place-init c =
     let size : length c.in_ok-links.links.waited ≡ n = rules_size rules c.in_ok-links.links is in
     let all : left_of c.in_ok-queue.queue.taken.items n ≡ range_with_len 0 n =
     ap (λ (t : List Bool). left_of t n) (c.in_ok-queue.ensures.taken ∙ ap (λ (m : ℕ). replicate m false) size) ∙ all_left n in
-    let P : List ℕ → Type 0 = λ l. OrderGoesOn rules (range_with_len 0 n) c.new-order.result l in
+    let P : List ℕ → Type 0 = λ l. OrderGoesOn rules (range_with_len 0 n) c.in_ok-order.order l in
     let Q : List ℕ → Type 0 = λ o. OrderGoesOn rules (range_with_len 0 n) o (range_with_len 0 n) in
     let e = ap length all in
     let l = length-range_with_len 0 n in
     record {
       ready = c.in_ok-queue.ensures.ready;
-      goes_on = subst P (sym all) (subst Q (sym c.new-order.ensures) (λ rest rest_is. rest_is));
+      goes_on = subst P (sym all) (subst Q (sym c.in_ok-order.ensures) (λ rest rest_is. rest_is));
       count = omega (arith, e, l);
     }
 

@@ -8,7 +8,7 @@ use Rattle.lf_deps.proofs.RuleTrees.{trees_count, trees_more}
 use Rattle.lf_deps.proofs.sources.Sources.of.Goals as goal
 
 pub loop-k-init : goal.loop-k-init
-loop-k-init c = no_sources c.new.result.items c.new-2.result c.new-3.result c.new.ensures.items c.new-2.ensures c.new-3.ensures
+loop-k-init c = no_sources c.in_ok-selected.selected.items c.new.result c.new-2.result c.in_ok-selected.ensures.items c.new.ensures c.new-2.ensures
 
 pub add-requires : goal.add-requires
 add-requires c = record { full = sources_full (rule_trees (take c.loop-k.k c.args.rules.now)) c.loop-k.sources c.loop-k.invariant }
