@@ -80,7 +80,7 @@ impl Sources {
     }
 
     /// The numbers of the rules that record the name at a place.
-    pub(crate) fn makers_at(&self, place: usize) -> &[usize]
+    pub fn makers_at(&self, place: usize) -> &[usize]
         ensures { result.now ≡ makers_at self.now place }
     {
         self.makers.at(place)

@@ -11,7 +11,7 @@ use crate::holding::holds;
 use crate::name_marks::NameMarks;
 use lf_ast::Rule;
 use lf_base::{Memory, Seq};
-use lf_classes::{TextSet, recorded_names};
+use lf_classes::recorded_names;
 use lf_deps::Sources;
 use std::alloc::Global;
 
@@ -25,7 +25,7 @@ pub(crate) fn own_forks(
     ensures { IfOk result (AreOwn (rule_trees rules.now)) }
 {
     let names = recorded_names(alloc, rules.as_slice())?;
-    let marked = have_several(alloc, sources, &names)?;
+    let marked = have_several(alloc, sources)?;
     Ok(NameMarks {
         names,
         marked,
@@ -33,13 +33,13 @@ pub(crate) fn own_forks(
     })
 }
 
-/// For each of these names whether several rules record it.
-fn have_several(alloc: Global, sources: &Sources, names: &TextSet) -> Result<Vec<bool>, Memory>
-    ensures { (rules : List RuleTree) → IsSourcesOf rules sources.now → IfOk result (λ several. several.items ≡ map (has_several_rules rules) names.now) }
+/// For each recorded name whether several rules record it.
+fn have_several(alloc: Global, sources: &Sources) -> Result<Vec<bool>, Memory>
+    ensures { (rules : List RuleTree) → IsSourcesOf rules sources.now → IfOk result (λ several. several.items ≡ map (has_several_rules rules) sources.now.names) }
 {
-    let mut several = Vec::new(alloc);
-    for k in 0..names.len() {
-        let makers = sources.makers_of(names.get(k).as_str());
+    let mut several = Vec::with_capacity(alloc, sources.recorded().len())?;
+    for k in 0..sources.recorded().len() {
+        let makers = sources.makers_at(k);
         several.push(makers.len() > 1)?;
     }
     Ok(several)

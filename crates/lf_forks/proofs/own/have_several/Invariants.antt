@@ -5,4 +5,4 @@ use Rattle.lf_trials.specs.Reached.{has_several_rules}
 use Rattle.lf_forks.proofs.own.have_several.Given as goal
 
 abbrev pub invariant-loop-k : goal.invariant-loop-k
-invariant-loop-k l = (rules : List RuleTree) → IsSourcesOf rules l.sources → l.several.items ≡ map (has_several_rules rules) (take l.k l.names)
+invariant-loop-k l = (rules : List RuleTree) → IsSourcesOf rules l.sources → l.several.items ≡ map (has_several_rules rules) (take l.k l.sources.names)
