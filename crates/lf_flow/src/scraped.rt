@@ -13,7 +13,8 @@ use std::alloc::Global;
 
 /// The row of all scraped series, where a rule of an index has a selector without a name. Else nothing reads it, and it isn't made: that is for speed alone, so no clause says it.
 ///
-/// It is the same in each environment of the same names, so whoever asks for the rows of many rules makes it once: this takes as long as there are recorded names.
+/// It is the same in each environment of the same names, and takes as long as there are recorded names. `solve` and the checks make it once for all rules. Rounds, and the
+/// rows by which worlds are built, don't take it: there each selector without a name makes it again.
 pub fn scraped_if_read(
     alloc: Global,
     universe: &Universe,
