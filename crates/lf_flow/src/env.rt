@@ -141,7 +141,7 @@ fn join_kept(kept: &mut Option<Row>, row: &Row)
 fn empty_rows(alloc: Global, universe: &Universe, count: usize) -> Result<Vec<Row>, Memory>
     ensures { IfOk result (λ rows. rows.items ≡ replicate count (bottom universe.now)) }
 {
-    let mut rows = Vec::new(alloc);
+    let mut rows = Vec::with_capacity(alloc, count)?;
     for _ in 0..count {
         rows.push(Row::empty(alloc, universe)?)?;
     }
