@@ -107,7 +107,7 @@ pub(crate) fn recording_rules_by(
     ensures { IfOk result (AreTaskPieces (rule_trees rules.now)) }
 {
     let order = order_of(alloc, sources, rules)?;
-    let mut pieces = Seq::new(alloc);
+    let mut pieces = Seq::with_capacity(alloc, order.len())?;
     for number in order.as_slice() {
         add_recording(rules, *number, &mut pieces)?;
     }
