@@ -66,7 +66,7 @@ pub fn fill_words(words: &mut Vec<u64>, on: bool, from: usize, to: usize)
     let last = to / 64;
     if first < last {
         fill_part(words, on, from, 64 * first);
-        fill_whole(words, on, first, last);
+        fill_whole(words.as_mut_slice(), on, first, last);
         fill_part(words, on, 64 * last, to);
     } else {
         fill_part(words, on, from, to);
@@ -88,13 +88,13 @@ fn fill_part(words: &mut Vec<u64>, on: bool, from: usize, to: usize)
 }
 
 /// Sets the bits of the words from `first` on and below `last`, or clears them.
-fn fill_whole(words: &mut Vec<u64>, on: bool, first: usize, last: usize)
-    requires within { last ≤ length words.old.items }
+fn fill_whole(words: &mut [u64], on: bool, first: usize, last: usize)
+    requires within { last ≤ length words.old }
     requires small { last < 2 ^ 32 }
-    ensures len { length words.new.items ≡ length words.old.items }
-    ensures inside { (k : ℕ) → 64 * first ≤ k → k < 64 * last → bit_of words.new.items k ≡ on }
-    ensures below { (k : ℕ) → k < 64 * first → bit_of words.new.items k ≡ bit_of words.old.items k }
-    ensures above { (k : ℕ) → 64 * last ≤ k → bit_of words.new.items k ≡ bit_of words.old.items k }
+    ensures len { length words.new ≡ length words.old }
+    ensures inside { (k : ℕ) → 64 * first ≤ k → k < 64 * last → bit_of words.new k ≡ on }
+    ensures below { (k : ℕ) → k < 64 * first → bit_of words.new k ≡ bit_of words.old k }
+    ensures above { (k : ℕ) → 64 * last ≤ k → bit_of words.new k ≡ bit_of words.old k }
 {
     let all = whole(true);
     for number in first..last {
@@ -116,7 +116,7 @@ pub fn change_words(words: &mut Vec<u64>, others: &[u64], change: Change, from: 
     let last = to / 64;
     if first < last {
         change_part(words, others, change, from, 64 * first);
-        change_whole(words, others, change, first, last);
+        change_whole(words.as_mut_slice(), others, change, first, last);
         change_part(words, others, change, 64 * last, to);
     } else {
         change_part(words, others, change, from, to);
@@ -141,14 +141,14 @@ fn change_part(words: &mut Vec<u64>, others: &[u64], change: Change, from: usize
 }
 
 /// Changes the bits of the words from `first` on and below `last` by the others.
-fn change_whole(words: &mut Vec<u64>, others: &[u64], change: Change, first: usize, last: usize)
-    requires same { length words.old.items ≡ length others.now }
+fn change_whole(words: &mut [u64], others: &[u64], change: Change, first: usize, last: usize)
+    requires same { length words.old ≡ length others.now }
     requires within { last ≤ length others.now }
     requires small { last < 2 ^ 32 }
-    ensures len { length words.new.items ≡ length words.old.items }
-    ensures inside { (k : ℕ) → 64 * first ≤ k → k < 64 * last → bit_of words.new.items k ≡ changed change (bit_of words.old.items k) (bit_of others.now k) }
-    ensures below { (k : ℕ) → k < 64 * first → bit_of words.new.items k ≡ bit_of words.old.items k }
-    ensures above { (k : ℕ) → 64 * last ≤ k → bit_of words.new.items k ≡ bit_of words.old.items k }
+    ensures len { length words.new ≡ length words.old }
+    ensures inside { (k : ℕ) → 64 * first ≤ k → k < 64 * last → bit_of words.new k ≡ changed change (bit_of words.old k) (bit_of others.now k) }
+    ensures below { (k : ℕ) → k < 64 * first → bit_of words.new k ≡ bit_of words.old k }
+    ensures above { (k : ℕ) → 64 * last ≤ k → bit_of words.new k ≡ bit_of words.old k }
 {
     let all = whole(true);
     for number in first..last {

@@ -5,5 +5,5 @@ use Rattle.lf_classes.proofs.range.fill_whole.Given as goal
 abbrev pub invariant-loop-number : goal.invariant-loop-number
 invariant-loop-number l = record {
   low : l.first ≤ l.number;
-  changed : IsChanged (λ k. l.on) l.initial.words.items l.words.items (64 * l.first) (64 * l.last) l.number;
+  changed : IsChanged (λ k. l.on) l.initial.words l.words (64 * l.first) (64 * l.last) l.number;
 }
