@@ -121,28 +121,30 @@ fn runs_in(alloc: Global, words: &[u64]) -> Result<Vec<WordRun>, Memory>
     ensures { IfOk result (λ runs. unpacked runs.items ≡ words.now) }
 {
     let mut runs = Vec::with_capacity(alloc, FEW_RUNS)?;
-    let mut run = WordRun { count: 0, word: 0 };
-    for word in words {
-        if *word == run.word {
-            run.count += 1;
-        } else {
-            push_run(&mut runs, run)?;
-            run = WordRun {
-                count: 1,
-                word: *word,
-            };
+    let mut first = 0;
+    let mut same = 0;
+    for place in 0..words.len() {
+        let word = words[place];
+        if word != same {
+            push_run(&mut runs, place - first, same)?;
+            first = place;
+            same = word;
         }
     }
-    push_run(&mut runs, run)?;
+    push_run(&mut runs, words.len() - first, same)?;
     Ok(runs)
 }
 
-/// Puts a run behind others, if there is a word in it.
-fn push_run(runs: &mut Vec<WordRun>, run: WordRun) -> Result<(), Memory>
-    ensures { OnOk result (unpacked runs.new.items ≡ unpacked runs.old.items ++ replicate run.count run.word) }
+/// Puts a run of so many words behind others, if there is a word in it.
+fn push_run(runs: &mut Vec<WordRun>, count: usize, word: u64) -> Result<(), Memory>
+    requires { count < 2 ^ 32 }
+    ensures { OnOk result (unpacked runs.new.items ≡ unpacked runs.old.items ++ replicate count word) }
 {
-    if run.count > 0 {
-        runs.push(run)?;
+    if count > 0 {
+        runs.push(WordRun {
+            count: count as u32,
+            word,
+        })?;
     }
     Ok(())
 }
