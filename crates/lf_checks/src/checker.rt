@@ -135,16 +135,36 @@ impl<'a> Checker<'a> {
         ensures numbers { (files : List File) → IfOk result (λ told. AreNumbered files (rule_trees self.now.rules) i told.0) }
         ensures empty { (r : RuleTree) → slice_get (rule_trees self.now.rules) i ≡ Some r → IfOk result (λ told. told.1 ≡ not (is_live (row_of_rule self.now.universe self.now.env r))) }
     {
-        let (found, empty) = self.found(alloc, i)?;
+        let (found, empty) = self.found(alloc, i, None)?;
         let sorted = in_order(alloc, found)?;
         Ok((sorted, empty))
     }
 
-    /// What is found of a rule, check by check, and whether its row is empty.
-    fn found(&self, alloc: Global, i: u32) -> Result<(Vec<Finding>, bool), Memory>
+    /// The same findings, by the rows of the rule's expression and of all parts in it, where they were made for something else.
+    pub fn rule_by(&self, alloc: Global, i: u32, rows: Vec<Row>) -> Result<Seq<Finding>, Memory>
+        requires least { IsLeast self.now.universe (rule_trees self.now.rules) self.now.env }
+        requires sources { HaveSources (rule_trees self.now.rules) }
+        requires rule { i < length self.now.rules }
+        requires rows { (r : RuleTree) → slice_get (rule_trees self.now.rules) i ≡ Some r → rows.items ≡ map (row_of self.now.universe self.now.env) (nodes r.expr) }
+        ensures findings { (files : List File) → StandIn files (rule_trees self.now.rules) → IfOk result (λ found. AreFindingsIn files self.now.universe (rule_trees self.now.rules) self.now.env i (all_shown files (rule_trees self.now.rules) found)) }
+        ensures numbers { (files : List File) → IfOk result (AreNumbered files (rule_trees self.now.rules) i) }
+    {
+        let (found, _empty) = self.found(alloc, i, Some(rows))?;
+        let sorted = in_order(alloc, found)?;
+        Ok(sorted)
+    }
+
+    /// What is found of a rule, check by check, and whether its row is empty. The rows of its expression and of all parts in it are taken where they were made.
+    fn found(
+        &self,
+        alloc: Global,
+        i: u32,
+        made: Option<Vec<Row>>,
+    ) -> Result<(Vec<Finding>, bool), Memory>
         requires env { IsEnvironment self.now.universe self.now.env }
         requires sources { HaveSources (rule_trees self.now.rules) }
         requires rule { i < length self.now.rules }
+        requires made { IfSome made (λ all. (r : RuleTree) → slice_get (rule_trees self.now.rules) i ≡ Some r → all.items ≡ map (row_of self.now.universe self.now.env) (nodes r.expr)) }
         ensures findings { IfOk result (λ found. (files : List File) → StandIn files (rule_trees self.now.rules) → Lists files (rule_trees self.now.rules) (IsFindingIn files self.now.universe (rule_trees self.now.rules) self.now.env i) found.0.items) }
         ensures numbers { (files : List File) → IfOk result (λ found. AreNumbered files (rule_trees self.now.rules) i found.0.items) }
         ensures empty { (r : RuleTree) → slice_get (rule_trees self.now.rules) i ≡ Some r → IfOk result (λ found. found.1 ≡ not (is_live (row_of_rule self.now.universe self.now.env r))) }
@@ -153,7 +173,7 @@ impl<'a> Checker<'a> {
         let nodes = nodes_of(alloc, &rule.expr)?;
         let exprs = nodes.as_slice();
         let scraped = self.scraped.as_ref();
-        let rows = sought_rows(alloc, self.universe, self.env, scraped, rule, exprs)?;
+        let rows = sought_rows(alloc, self.universe, self.env, scraped, rule, exprs, made)?;
         let row = own_row(alloc, self.universe, self.env, scraped, rule, &rows)?;
         let own = of_rule(alloc, self.universe, &row, rule)?;
         let parts = of_parts(alloc, self.universe, &self.recorded, rule, exprs, rows)?;

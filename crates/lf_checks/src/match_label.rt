@@ -32,8 +32,8 @@ use lf_flow::{Env, part_rows_with};
 use lf_parts::by_parts;
 use std::alloc::Global;
 
-/// The rows of a rule's expression and of all parts in it, where one of these parts seeks a label. Elsewhere they aren't made. The row of all scraped series is taken where it
-/// is at hand.
+/// The rows of a rule's expression and of all parts in it, where they were made before, or one of these parts seeks a label. Elsewhere they aren't made. The row of all scraped
+/// series is taken where it is at hand.
 pub(crate) fn sought_rows(
     alloc: Global,
     universe: &Universe,
@@ -41,21 +41,23 @@ pub(crate) fn sought_rows(
     scraped: Option<&Row>,
     rule: &Rule,
     parts: &[&Expr],
+    made: Option<Vec<Row>>,
 ) -> Result<Option<Vec<Row>>, Memory>
     requires env { IsEnvironment universe.now env.now }
     requires scraped { IfSome scraped (λ row. row.now ≡ scraped_row universe.now env.now) }
     requires parts { trees_at parts.now ≡ nodes (rule_tree rule.now).expr }
+    requires made { IfSome made (λ all. all.items ≡ map (row_of universe.now env.now) (nodes (rule_tree rule.now).expr)) }
     ensures some { IfOk result (λ rows. IfSome rows (λ all. all.items ≡ map (row_of universe.now env.now) (nodes (rule_tree rule.now).expr))) }
     ensures none { IfOk result (λ rows. IfNone rows (list_any (λ part. seeks_labels (tree part.now)) parts.now ≡ false)) }
 {
-    if !any_seeks(parts) {
-        return Ok(None);
+    if made.is_some() || !any_seeks(parts) {
+        return Ok(made);
     }
     let rows = part_rows_with(alloc, universe, env, scraped, &rule.expr)?;
     Ok(Some(rows))
 }
 
-/// What the check finds of a rule, by the rows of its expression and of all parts in it, which aren't there where no part seeks a label.
+/// What the check finds of a rule, by the rows of its expression and of all parts in it, which may be left out where no part seeks a label.
 pub(crate) fn match_label(
     alloc: Global,
     universe: &Universe,
@@ -70,8 +72,28 @@ pub(crate) fn match_label(
     ensures { (env : Environment) → IfSome rows (λ all. all.items ≡ map (row_of universe.now env) (nodes (rule_tree rule.now).expr)) → IfOk result (λ found. ListsAlone (IsFound universe.now env (rule_tree rule.now)) found.items) }
 {
     match rows {
-        Some(rows) => judge_nodes(alloc, universe, &rule.expr, parts, rows),
+        Some(rows) => judge_if_sought(alloc, universe, rule, parts, rows),
         None => Ok(Vec::new(alloc)),
+    }
+}
+
+/// What the check finds of a rule, by the rows of its expression and of all parts in it: nothing where no part seeks a label.
+fn judge_if_sought(
+    alloc: Global,
+    universe: &Universe,
+    rule: &Rule,
+    parts: &[&Expr],
+    rows: Vec<Row>,
+) -> Result<Vec<Finding>, Memory>
+    requires listing { IsListing universe.now }
+    requires parts { trees_at parts.now ≡ nodes (rule_tree rule.now).expr }
+    requires rows { (env : Environment) × IsEnvironment universe.now env × (rows.items ≡ map (row_of universe.now env) (nodes (rule_tree rule.now).expr)) }
+    ensures { (env : Environment) → rows.items ≡ map (row_of universe.now env) (nodes (rule_tree rule.now).expr) → IfOk result (λ found. ListsAlone (IsFound universe.now env (rule_tree rule.now)) found.items) }
+{
+    if any_seeks(parts) {
+        judge_nodes(alloc, universe, &rule.expr, parts, rows)
+    } else {
+        Ok(Vec::new(alloc))
     }
 }
 

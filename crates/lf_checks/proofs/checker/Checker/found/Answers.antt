@@ -1,16 +1,17 @@
-use Rattle.std.proofs.Common.{◌≡◌, ◌<◌, ℕ, List, Option, None, Some, not, length, take, get_or, sym, ap, ◌∙◌, subst}
-use Rattle.std.proofs.lemmas.Option.{get_or_from_slice_get, slice_get-get_or, slice_get-map, slice_get_within}
+use Rattle.std.proofs.Common.{◌≡◌, ◌<◌, ℕ, List, Option, None, Some, IfSome, not, length, map, take, get_or, sym, ap, ◌∙◌, subst}
+use Rattle.std.proofs.lemmas.Option.{IfSome_then, get_or_from_slice_get, slice_get-get_or, slice_get-map, slice_get_within}
 use Rattle.std.specs.List.{Contains}
 use Rattle.std.specs.Option.{option_map}
 use Rattle.std.specs.Prelude.{slice_get}
 use Rattle.lf_laws.proofs.Members.{in_map}
 use Rattle.lf_ast.specs.Rules.{RuleTree, rule_tree, rule_trees}
+use Rattle.lf_ast.specs.Tree.{nodes}
 use Rattle.lf_ast.specs.declared.rule.Rule.{Rule}
 use Rattle.lf_ast.specs.declared.verdict.Finding.{Finding as Row}
 use Rattle.lf_semantics.specs.ClassRows.{HasShape, Sets, is_live}
 use Rattle.lf_semantics.specs.Environments.{IsEnvironment, rule_row}
 use Rattle.lf_semantics.specs.Listing.{IsListing, Listing}
-use Rattle.lf_semantics.specs.RowTable.{scraped_row}
+use Rattle.lf_semantics.specs.RowTable.{row_of, scraped_row}
 use Rattle.lf_semantics.proofs.NormalizedRows.{rule_row_is}
 use Rattle.lf_flow.proofs.ScrapedSeries.{when_lent}
 use Rattle.lf_checks.specs.AlertTemplate.{HaveSources}
@@ -25,6 +26,14 @@ use Rattle.lf_checks.proofs.checker.Checker.found.Goals as goal
 pub sought_rows-requires-clause-scraped : goal.sought_rows-requires-clause-scraped
 sought_rows-requires-clause-scraped c =
     when_lent (λ (row : Sets). row ≡ scraped_row c.self.inside.universe.now c.self.inside.env.now) c.self.inside.scraped c.as_ref-scraped.result c.as_ref-scraped.ensures.value c.self.invariant.3
+
+pub sought_rows-requires-clause-made : goal.sought_rows-requires-clause-made
+sought_rows-requires-clause-made c =
+    let rules : List Rule = c.self.inside.rules.now in
+    let rule : Rule = c.get-rule.result.now in
+    let at : slice_get (rule_trees rules) c.args.i ≡ Some (rule_tree rule) = slice_get-map rule_tree rules c.args.i ∙ ap (option_map rule_tree) c.get-rule.ensures.value in
+    let made = subst (λ (v : CheckerView). IfSome c.args.made (λ all. (r : RuleTree) → slice_get (rule_trees v.rules) c.args.i ≡ Some r → all.items ≡ map (row_of v.universe v.env) (nodes r.expr))) (sym c.self.view_is) c.requires.made in
+    IfSome_then c.args.made made (λ all is. is (rule_tree rule) at)
 
 pub own_row-requires-clause-scraped : goal.own_row-requires-clause-scraped
 own_row-requires-clause-scraped c =
