@@ -46,11 +46,11 @@ impl PartRows {
         universe: &Universe,
         forks: &Forks,
         expr: &Expr,
-        rows: Vec<Row>,
+        rows: &[Row],
         likely: &[u32],
     ) -> Result<PartRows, Memory>
-        requires { (env : Environment) × IsEnvironment universe.now env × (rows.items ≡ map (row_of universe.now env) (nodes (tree expr.now))) }
-        ensures { (env : Environment) → IsEnvironment universe.now env → rows.items ≡ map (row_of universe.now env) (nodes (tree expr.now)) → IfOk result (λ parts. parts ≡ part_rows universe.now env (has_passing (test_of forks.now)) (nodes (tree expr.now))) }
+        requires { (env : Environment) × IsEnvironment universe.now env × (rows.now ≡ map (row_of universe.now env) (nodes (tree expr.now))) }
+        ensures { (env : Environment) → IsEnvironment universe.now env → rows.now ≡ map (row_of universe.now env) (nodes (tree expr.now)) → IfOk result (λ parts. parts ≡ part_rows universe.now env (has_passing (test_of forks.now)) (nodes (tree expr.now))) }
     {
         // For what its contract says of the universe.
         let _labels = universe.labels();
@@ -115,17 +115,16 @@ impl PartRows {
 fn packed_rows(
     alloc: Global,
     universe: &Universe,
-    mut rows: Vec<Row>,
+    rows: &[Row],
     likely: &[u32],
 ) -> Result<Vec<PackedRow>, Memory>
     requires universe { IsWithin universe.now }
-    requires shapes { All (HasShape universe.now) rows.items }
-    ensures { IfOk result (λ kept. kept.items ≡ map (packed universe.now) rows.items) }
+    requires shapes { All (HasShape universe.now) rows.now }
+    ensures { IfOk result (λ kept. kept.items ≡ map (packed universe.now) rows.now) }
 {
     let mut kept = Vec::with_capacity(alloc, rows.len())?;
-    while let Some(row) = rows.pop() {
-        kept.push(PackedRow::of(alloc, universe, &row, likely)?)?;
+    for row in rows {
+        kept.push(PackedRow::of(alloc, universe, row, likely)?)?;
     }
-    kept.reverse();
     Ok(kept)
 }

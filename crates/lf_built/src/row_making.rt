@@ -1,5 +1,5 @@
 //! The rows of rules.
-ghost use Rattle.std.specs.Prelude.{◌≡◌, ◌<◌, ◌≤◌, List, None, Some, cond, false, length, slice_get, IfNone, IfOk, IfSome};
+ghost use Rattle.std.specs.Prelude.{◌≡◌, ◌<◌, ◌≤◌, List, None, Some, cond, false, length, map, slice_get, IfNone, IfOk, IfSome};
 ghost use Rattle.lf_ast.specs.Tree.{nodes};
 ghost use Rattle.lf_ast.specs.Rules.{RuleTree, rule_tree, rule_trees};
 ghost use Rattle.lf_deps.specs.views.Sources.{IsSourcesOf};
@@ -57,11 +57,35 @@ impl RuleRow {
         requires rule { number < length rules.now }
         ensures { (r : RuleTree) → slice_get (rule_trees rules.now) number ≡ Some r → IfOk result (IsRowOf universe.now env.now forks.now (rule_trees rules.now) r) }
     {
+        let rule = rules.get(number);
+        let rows = part_rows(alloc, universe, env, &rule.expr)?;
+        let rows = rows.as_slice();
+        RuleRow::by(alloc, universe, env, rules, sources, forks, number, rows)
+    }
+
+    /// The same, by the rows of the rule's expression and of all parts in it.
+    pub fn by(
+        alloc: Global,
+        universe: &Universe,
+        env: &Env,
+        rules: &Seq<Rule>,
+        sources: &Sources,
+        forks: &Forks,
+        number: usize,
+        rows: &[Row],
+    ) -> Result<RuleRow, Memory>
+        requires env { IsEnvironment universe.now env.now }
+        requires sources { IsSourcesOf (rule_trees rules.now) sources.now }
+        requires rule { number < length rules.now }
+        requires rows { (r : RuleTree) → slice_get (rule_trees rules.now) number ≡ Some r → rows.now ≡ map (row_in universe.now env.now) (nodes r.expr) }
+        ensures { (r : RuleTree) → slice_get (rule_trees rules.now) number ≡ Some r → IfOk result (IsRowOf universe.now env.now forks.now (rule_trees rules.now) r) }
+    {
         let selected = sources.selected_by(number);
         let rule = rules.get(number);
         let names = names_of(alloc, universe, sources.recorded(), selected, rule)?;
         let likely = likely_names(alloc, universe, selected)?;
-        let row = row_of(alloc, universe, env, forks, rule, names, likely.as_slice())?;
+        let likely = likely.as_slice();
+        let row = row_of(alloc, universe, env, forks, rule, rows, names, likely)?;
         Ok(row)
     }
 }
@@ -109,10 +133,12 @@ fn row_of(
     env: &Env,
     forks: &Forks,
     rule: &Rule,
+    rows: &[Row],
     names: SoughtNames,
     likely: &[u32],
 ) -> Result<RuleRow, Memory>
     requires env { IsEnvironment universe.now env.now }
+    requires rows { rows.now ≡ map (row_in universe.now env.now) (nodes (rule_tree rule.now).expr) }
     ensures names { IfOk result (λ row. row.names ≡ names) }
     ensures parts { IfOk result (λ row. row.parts ≡ rows_of_parts universe.now env.now (has_passing (test_of forks.now)) (nodes (rule_tree rule.now).expr)) }
     ensures own { IfOk result (λ row. own_or row.own (row_in universe.now env.now (rule_tree rule.now).expr) ≡ row_of_rule universe.now env.now (rule_tree rule.now)) }
@@ -120,7 +146,6 @@ fn row_of(
 {
     // For what its contract says of the universe.
     let _labels = universe.labels();
-    let rows = part_rows(alloc, universe, env, &rule.expr)?;
     let whole = rule_row_by(alloc, universe, rule, &rows[0])?;
     let parts = PartRows::of(alloc, universe, forks, &rule.expr, rows, likely)?;
     let own = if_empty(&whole)?;

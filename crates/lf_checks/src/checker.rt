@@ -33,7 +33,7 @@ use lf_ast::{Expr, Finding, Rule};
 use lf_base::{Memory, Seq};
 use lf_classes::{Row, Universe};
 use lf_fix::{rule_row_by, rule_row_with};
-use lf_flow::{Env, scraped_if_read};
+use lf_flow::{Env, part_rows_with, scraped_if_read};
 use std::alloc::Global;
 use std::marker::Model;
 
@@ -112,6 +112,17 @@ impl<'a> Checker<'a> {
         ensures { AreOf (rule_trees self.now.rules) result.now }
     {
         &self.recorded
+    }
+
+    /// The rows of the expression of the rule with this number, counted from 0, and of all parts in it.
+    pub fn part_rows(&self, alloc: Global, i: u32) -> Result<Vec<Row>, Memory>
+        requires env { IsEnvironment self.now.universe self.now.env }
+        requires rule { i < length self.now.rules }
+        ensures { (r : RuleTree) → slice_get (rule_trees self.now.rules) i ≡ Some r → IfOk result (λ rows. rows.items ≡ map (row_of self.now.universe self.now.env) (nodes r.expr)) }
+    {
+        let rule = self.rules.get(i as usize);
+        let scraped = self.scraped.as_ref();
+        part_rows_with(alloc, self.universe, self.env, scraped, &rule.expr)
     }
 
     /// The findings of the rule with this number, counted from 0, in their order and each once.
