@@ -2,6 +2,7 @@ pub mod Called
 pub mod Contents
 pub mod FirstOpen
 pub mod Found
+pub mod FoundTogether
 pub mod NamePositions
 pub mod Named
 pub mod Numbered
@@ -10,6 +11,7 @@ pub mod OneReport
 pub mod Pieces
 pub mod Places
 pub mod Reported
+pub mod RowsAtHand
 pub mod Shared
 pub mod SoFar
 pub mod Sourced

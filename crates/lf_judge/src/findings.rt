@@ -4,7 +4,7 @@ ghost use Rattle.lf_ast.specs.Rules.{RuleTree};
 ghost use Rattle.lf_checks.specs.Files.{File};
 ghost use Rattle.lf_checks.specs.views.Shown.{all_shown, place_of, shown};
 ghost use Rattle.lf_judge.specs.Judged.{finding_in, finding_told};
-ghost use Rattle.lf_judge.specs.views.AtHand.{IsReady, TellsFindingsAt, files_at, rules_of_hand};
+ghost use Rattle.lf_judge.specs.views.AtHand.{ArePartRowsAt, IsReady, TellsFindingsAt, files_at, rules_of_hand};
 ghost use Rattle.lf_judge.specs.views.Checking.{TellsEmpty};
 
 use crate::at_hand::AtHand;
@@ -12,24 +12,28 @@ use crate::wording::{check_name, severity};
 use lf_ast::Finding;
 use lf_base::{Memory, Seq, Text};
 use lf_checks::text_of;
+use lf_classes::Row;
 use lf_report::{Position, ReportedFinding, place_at};
 use std::alloc::Global;
 
-/// The findings of the rule with this number.
-pub fn findings_of(
+/// The findings of the rule with this number, by the rows of its expression and of all parts in it.
+pub fn findings_by(
     alloc: Global,
     hand: &AtHand,
     number: u32,
+    rows: Vec<Row>,
 ) -> Result<Seq<ReportedFinding>, Memory>
     requires ready { IsReady hand.now }
     requires rule { number < length hand.now.rules.now }
+    requires rows { ArePartRowsAt hand.now number rows.items }
     ensures { IfOk result (TellsFindingsAt hand.now number) }
 {
-    let (findings, _empty) = findings_and_emptiness(alloc, hand, number)?;
-    Ok(findings)
+    let found = hand.checker.rule_by(alloc, number, rows)?;
+    let told = each_told(alloc, hand, found.as_slice())?;
+    Ok(told)
 }
 
-/// The same, and whether the rule is empty.
+/// The findings of the rule with this number, and whether it is empty.
 pub fn findings_and_emptiness(
     alloc: Global,
     hand: &AtHand,

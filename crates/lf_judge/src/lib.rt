@@ -12,6 +12,7 @@ mod measuring;
 mod moving;
 mod name_positions;
 mod rule_found;
+mod rule_read;
 mod source;
 mod telling;
 mod verdicts;

@@ -1,12 +1,15 @@
 -- What is at hand to tell of rules.
-use Rattle.std.specs.Prelude.{◌≡◌, ◌≤◌, ℕ, Bool, List, length}
+use Rattle.std.specs.Prelude.{◌≡◌, ◌≤◌, ℕ, Bool, List, Some, length, map, slice_get}
 use Rattle.lf_ast.specs.Rules.{RuleTree, rule_trees}
+use Rattle.lf_ast.specs.Tree.{nodes}
 use Rattle.lf_checks.specs.AlertTemplate.{HaveSources}
 use Rattle.lf_checks.specs.Files.{File, StandIn}
 use Rattle.lf_report.specs.declared.report.ReportedFinding.{ReportedFinding}
 use Rattle.lf_report.specs.declared.report.RuleReport.{RuleReport}
+use Rattle.lf_semantics.specs.ClassRows.{Sets}
 use Rattle.lf_semantics.specs.Environments.{IsLeast}
 use Rattle.lf_semantics.specs.Listing.{universe_of}
+use Rattle.lf_semantics.specs.RowTable.{row_of}
 use Rattle.lf_worlds.specs.views.Tried.{Tried}
 use Rattle.lf_judge.specs.Judged.{files_of}
 use Rattle.lf_judge.specs.Limits.{most_rules}
@@ -34,6 +37,10 @@ pub record IsReady (h : AtHand) : Type 0 where
 -- the trials are those of the rules
 abbrev pub AreTrialsAt : AtHand → Tried → Type 0
 AreTrialsAt h trials = trials ≡ record { universe = universe_of (rules_of_hand h); env = h.env.now; rules = h.rules.now }
+
+-- these are the rows of the expression of the rule with a number and of all parts in it
+abbrev pub ArePartRowsAt : AtHand → ℕ → List Sets → Type 0
+ArePartRowsAt h number rows = (r : RuleTree) → slice_get (rules_of_hand h) number ≡ Some r → rows ≡ map (row_of h.universe.now h.env.now) (nodes r.expr)
 
 -- these are findings of the rule with a number
 abbrev pub TellsFindingsAt : AtHand → ℕ → List ReportedFinding → Type 0

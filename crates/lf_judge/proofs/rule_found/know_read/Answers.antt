@@ -7,7 +7,7 @@ use Rattle.lf_semantics.specs.Listing.{Listing}
 use Rattle.lf_semantics.proofs.ListingLaws.{universe_covers}
 use Rattle.lf_worlds.specs.views.Tried.{Tried}
 use Rattle.lf_judge.specs.views.AtHand.{rules_of_hand}
-use Rattle.lf_judge.proofs.rule_found.find_read.Goals as goal
+use Rattle.lf_judge.proofs.rule_found.know_read.Goals as goal
 
 pub by-requires-clause-covers : goal.by-requires-clause-covers
 by-requires-clause-covers g c =
@@ -19,8 +19,8 @@ by-requires-clause-least g c =
     let hand = c.args.hand.now in
     let P : Listing → Type 0 = λ u. IsLeast u (rules_of_hand hand) hand.env.now in subst P (sym c.requires.ready.universe) c.requires.ready.least
 
-pub find_each-requires-clause-trials : goal.find_each-requires-clause-trials
-find_each-requires-clause-trials g c κs within =
+pub know_each-requires-clause-trials : goal.know_each-requires-clause-trials
+know_each-requires-clause-trials g c κs within =
     let hand = c.args.hand.now in
     let tried : Listing → Tried = λ u. record { universe = u; env = hand.env.now; rules = hand.rules.now } in c.in_ok-trials.ensures ∙ ap tried c.requires.ready.universe
 
